@@ -1,0 +1,15 @@
+pub mod Heads
+pub mod Strings
+pub mod Tokens
+pub mod Orders
+pub mod Keys
+pub mod Checks
+pub mod Shortest
+pub mod Spelled
+pub mod Exact
+pub mod Faults
+pub mod Laws
+pub mod Fields
+pub mod Lookup
+pub mod Open
+pub mod Broken

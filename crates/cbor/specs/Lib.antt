@@ -1,0 +1,9 @@
+pub mod Steps
+pub mod Head
+pub mod Reader
+pub mod Finder
+pub mod Meaning
+pub mod Grammar
+pub mod Laws
+pub mod Examples
+pub mod Fault

@@ -1,0 +1,179 @@
+//! The edges of canonical reading.
+
+use crate::check;
+use crate::find;
+use crate::finding::Field;
+use crate::finding::Key;
+use crate::item::Fault;
+use crate::item::FaultDebug;
+use crate::item::FaultPartialEq;
+use crate::item::Part;
+use std::test::Fail;
+use std::test::check_eq;
+
+/// Checks that the message is read from its second byte on, to its end.
+fn read_whole(message: &[u8]) -> Result<(), Fail> {
+    check_eq(check(message, 1), Ok(message.len()))
+}
+
+/// Checks that the message breaks a rule at that place.
+fn faulty(message: &[u8], place: usize) -> Result<(), Fail> {
+    check_eq(check(message, 1), Err(Fault { place }))
+}
+
+#[test]
+fn shortest_heads() -> Result<(), Fail> {
+    read_whole(&[0x41, 0x17])?;
+    faulty(&[0x41, 0x18, 0x17], 1)?;
+    read_whole(&[0x41, 0x18, 0x18])?;
+    read_whole(&[0x41, 0x18, 0xff])?;
+    faulty(&[0x41, 0x19, 0x00, 0xff], 1)?;
+    read_whole(&[0x41, 0x19, 0x01, 0x00])?;
+    read_whole(&[0x41, 0x19, 0xff, 0xff])?;
+    faulty(&[0x41, 0x1a, 0x00, 0x00, 0xff, 0xff], 1)?;
+    read_whole(&[0x41, 0x1a, 0x00, 0x01, 0x00, 0x00])?;
+    read_whole(&[0x41, 0x1a, 0xff, 0xff, 0xff, 0xff])?;
+    faulty(
+        &[0x41, 0x1b, 0x00, 0x00, 0x00, 0x00, 0xff, 0xff, 0xff, 0xff],
+        1,
+    )?;
+    read_whole(&[0x41, 0x1b, 0x00, 0x00, 0x00, 0x01, 0x00, 0x00, 0x00, 0x00])?;
+    read_whole(&[0x41, 0x3b, 0xff, 0xff, 0xff, 0xff, 0xff, 0xff, 0xff, 0xff])
+}
+
+#[test]
+fn refused_heads() -> Result<(), Fail> {
+    for byte in [
+        0x1c,
+        0x1f,
+        0x5f,
+        0x7f,
+        0x9f,
+        0xbf,
+        0xc0,
+        0xf3,
+        0xf7,
+        0xf8,
+        0xf9,
+        0xff,
+    ] {
+        faulty(&[0x41, byte, 0x00, 0x00], 1)?;
+    }
+    faulty(&[0x41, 0x19, 0x01], 1)?;
+    faulty(&[0x41, 0xf8, 0x20], 1)?;
+    for byte in [0xf4, 0xf5, 0xf6] {
+        read_whole(&[0x41, byte])?;
+    }
+    Ok(())
+}
+
+#[test]
+fn strings_and_counts() -> Result<(), Fail> {
+    read_whole(&[0x41, 0x43, 1, 2, 3])?;
+    faulty(&[0x41, 0x44, 1, 2, 3], 1)?;
+    faulty(&[0x41, 0x42, 1, 2, 3], 4)?;
+    read_whole(&[0x41, 0x62, 0xc3, 0x28])?;
+    faulty(&[0x41, 0x82, 0x01], 3)?;
+    faulty(
+        &[
+            0x41,
+            0x9b,
+            0xff,
+            0xff,
+            0xff,
+            0xff,
+            0xff,
+            0xff,
+            0xff,
+            0xff,
+            0x00,
+        ],
+        11,
+    )?;
+    faulty(
+        &[
+            0x41,
+            0xbb,
+            0xff,
+            0xff,
+            0xff,
+            0xff,
+            0xff,
+            0xff,
+            0xff,
+            0xff,
+            0x00,
+        ],
+        11,
+    )?;
+    faulty(
+        &[
+            0x41,
+            0x5b,
+            0xff,
+            0xff,
+            0xff,
+            0xff,
+            0xff,
+            0xff,
+            0xff,
+            0xff,
+            0x00,
+        ],
+        1,
+    )
+}
+
+#[test]
+fn levels_and_keys() -> Result<(), Fail> {
+    read_whole(&[0x41, 0xa1, 0x01, 0x81, 0xa1, 0x02, 0x81, 0x00])?;
+    faulty(&[0x41, 0xa1, 0x01, 0x81, 0xa1, 0x02, 0x81, 0xa0], 7)?;
+    faulty(&[0x41, 0xa2, 0x01, 0x00, 0x01, 0x00], 4)?;
+    faulty(&[0x41, 0xa2, 0x02, 0x00, 0x01, 0x00], 4)?;
+    faulty(&[0x41, 0xa1, 0x80, 0x00], 2)?;
+    faulty(&[0x41, 0xa1, 0xf4, 0x00], 2)?;
+    read_whole(&[0x41, 0xa2, 0x18, 0x18, 0x00, 0x20, 0x00])?;
+    faulty(&[0x41, 0xa2, 0x20, 0x00, 0x18, 0x18, 0x00], 4)?;
+    read_whole(&[0x41, 0xa2, 0x61, 0x7a, 0x00, 0x62, 0x61, 0x61, 0x00])?;
+    faulty(&[0x41, 0xa2, 0x61, 0x62, 0x00, 0x61, 0x61, 0x00], 5)
+}
+
+/// Checks the place and the bytes of a field, or that there is none.
+fn holds(message: &[u8], key: Key, wanted: Option<(usize, &[u8])>) -> Result<(), Fail> {
+    let found = match find(message, 1, key) {
+        Some(
+            Field {
+                part: Part { place, .. },
+                raw,
+            },
+        ) => Some((place, raw)),
+        None => None,
+    };
+    check_eq(found, wanted)
+}
+
+#[test]
+fn fields() -> Result<(), Fail> {
+    let message = [
+        0x41,
+        0xa3,
+        0x01,
+        0x06,
+        0x02,
+        0xa1,
+        0x02,
+        0xf6,
+        0x62,
+        0x69,
+        0x64,
+        0x41,
+        0x07,
+    ];
+    holds(&message, Key::Number(1), Some((3, &[0x06])))?;
+    holds(&message, Key::Number(2), Some((5, &[0xa1, 0x02, 0xf6])))?;
+    holds(&message, Key::Number(3), None)?;
+    holds(&message, Key::Text(b"id"), Some((11, &[0x41, 0x07])))?;
+    holds(&message, Key::Text(b"ie"), None)?;
+    holds(&[0x41, 0x80], Key::Number(1), None)?;
+    holds(&[0x41], Key::Number(1), None)
+}
