@@ -12,9 +12,9 @@ use Rattle.std.specs.declared.result.Result.the-variants.{Ok, Err}
 use Rattle.std.proofs.shelf.Lists.{take-at, drop-at}
 use Rattle.cbor.specs.Fault.{NoItem, NoKey, lastKey, Within, unread, inArray, atKey, inValue, Broken, Surplus, Placed}
 use Rattle.cbor.specs.Reader.{Said, number, negative, bytes, text, array, map, simple, token, container, precedes, key, items, entries, inside, item, deepest, ended, whole, checked}
-use Rattle.cbor.specs.Grammar.{Leaf, Value, head, encodeLeaf, encodeEntry, encode, FineLeaf, IsKey, Each, Entries, Canonical, Bytes, spelled}
+use Rattle.cbor.specs.Grammar.{Leaf, Value, head, encodeLeaf, encodeEntry, encode, FineLeaf, IsKey, Each, Entries, Canonical, spelled, FineSaid}
 use Rattle.cbor.proofs.Keys.{never}
-use Rattle.cbor.proofs.Shortest.{bytes-drop}
+use Rattle.cbor.proofs.Shortest.{Bytes, bytes-drop}
 use Rattle.cbor.proofs.Spelled.{token-complete, token-sound}
 use Rattle.cbor.proofs.Exact.{Reader, Reads, bytes-behind, keyed, key-complete, item-reads}
 use Rattle.cbor.proofs.Faults.{then-err, or-err, ended-err, whole-faults}
@@ -93,22 +93,22 @@ module _ (read : Reader) (V : Type 0) (enc : V → List ℕ) (Fine : V → Type 
 
 -- what lies inside a map or an array, with what is known of the level below
 module _ (levels : ℕ) (under : (us ws : List ℕ) → Bytes us → item levels us ≡ Err ws → Broken levels us ws) where
-  inside-broken : (s : Said) (us rest ws : List ℕ) → us ≡ spelled s ++ rest → Bytes rest → inside (item levels) s rest ≡ Err ws → Within levels (Broken levels) us ws
+  inside-broken : (s : Said) (us rest ws : List ℕ) → FineSaid s → us ≡ spelled s ++ rest → Bytes rest → inside (item levels) s rest ≡ Err ws → Within levels (Broken levels) us ws
   unfolding inside
-  inside-broken (number n) us rest ws is each e = never e
-  inside-broken (negative n) us rest ws is each e = never e
-  inside-broken (bytes bs) us rest ws is each e = never e
-  inside-broken (text bs) us rest ws is each e = never e
-  inside-broken (array n) us rest ws is each e =
+  inside-broken (number n) us rest ws fine is each e = never e
+  inside-broken (negative n) us rest ws fine is each e = never e
+  inside-broken (bytes bs) us rest ws fine is each e = never e
+  inside-broken (text bs) us rest ws fine is each e = never e
+  inside-broken (array n) us rest ws fine is each e =
       let g = items-broken (item levels) (Value levels) (encode levels) (Canonical levels) (item-reads levels) n rest ws each e in
-      inArray n (g .0) (g .1) (is ∙ ap (λ r. head 4 n ++ r) (g .2)) (g .3) (g .4) (under (g .1) ws (g .5) (g .6))
-  inside-broken (map n) us rest ws is each e =
+      inArray n (g .0) (g .1) fine (is ∙ ap (λ r. head 4 n ++ r) (g .2)) (g .3) (g .4) (under (g .1) ws (g .5) (g .6))
+  inside-broken (map n) us rest ws fine is each e =
       let g = entries-broken (item levels) (Value levels) (encode levels) (Canonical levels) (item-reads levels) n [] rest ws each e in
       ⊎-elim
-      (λ h. atKey n (g .es) (is ∙ ap (λ r. head 5 n ++ r) (h .0)) (g .fine) (g .less) (h .1))
-      (λ h. inValue n (g .es) (h .0) (h .1) (is ∙ ap (λ r. head 5 n ++ r) (h .2)) (g .fine) (g .less) (h .3) (h .4) (h .5) (under (h .1) ws (h .6) (h .7)))
+      (λ h. atKey n (g .es) fine (is ∙ ap (λ r. head 5 n ++ r) (h .0)) (g .fine) (g .less) (h .1))
+      (λ h. inValue n (g .es) (h .0) (h .1) fine (is ∙ ap (λ r. head 5 n ++ r) (h .2)) (g .fine) (g .less) (h .3) (h .4) (h .5) (under (h .1) ws (h .6) (h .7)))
       (g .how)
-  inside-broken (simple n) us rest ws is each e = never e
+  inside-broken (simple n) us rest ws fine is each e = never e
 
 cond-err : (b : Bool) (us xs ws : List ℕ) → cond b (Err us) (Ok xs) ≡ Err ws → (b ≡ true) × (us ≡ ws)
 cond-err true us xs ws e = (refl, cc)
@@ -121,12 +121,15 @@ item-broken zero us ws each e =
     (λ p. (p .1, inl (no-item us (p .0))))
     (λ g.
     let c = cond-err (container (g .0 .said)) us (drop (g .0 .size) us) ws (g .2) in
-    (c .1, inr (g .0 .said, drop (g .0 .size) us, c .0, token-sound us (g .0) each (g .1) .is)))
+    let s = token-sound us (g .0) each (g .1) in
+    (c .1, inr (g .0 .said, drop (g .0 .size) us, c .0, s .fine, s .is)))
     (or-err (token us) us _ ws e)
 item-broken (suc levels) us ws each e =
     ⊎-elim
     (λ p. unread (p .1) (no-item us (p .0)))
-    (λ g. inside-broken levels (item-broken levels) (g .0 .said) us (drop (g .0 .size) us) ws (token-sound us (g .0) each (g .1) .is) (bytes-drop (g .0 .size) us each) (g .2))
+    (λ g.
+    let s = token-sound us (g .0) each (g .1) in
+    inside-broken levels (item-broken levels) (g .0 .said) us (drop (g .0 .size) us) ws (s .fine) (s .is) (bytes-drop (g .0 .size) us each) (g .2))
     (or-err (token us) us _ ws e)
 
 some-left : (us ws : List ℕ) → ended us ≡ Err ws → 0 < length ws

@@ -14,9 +14,9 @@ use Rattle.std.proofs.shelf.Lists.{take-at, drop-at}
 use Rattle.cbor.specs.Steps.{given, orFail, andThen}
 use Rattle.cbor.specs.Reader.{Said, Token, token, mayBeKey, container, precedes, key, items, entries, inside, item}
 use Rattle.cbor.specs.Reader as reader
-use Rattle.cbor.specs.Grammar.{Leaf, number, negative, bytes, text, simple, Node, leaf, array, map, Value, head, says, encodeLeaf, encodeEntry, encodeNode, encode, FineLeaf, IsKey, Each, Entries, FineNode, Canonical, Bytes, spelled, FineSaid}
+use Rattle.cbor.specs.Grammar.{Leaf, number, negative, bytes, text, simple, Node, leaf, array, map, Value, head, says, encodeLeaf, encodeEntry, encodeNode, encode, FineLeaf, IsKey, Each, Entries, FineNode, Canonical, spelled, FineSaid}
 use Rattle.cbor.proofs.Keys.{never}
-use Rattle.cbor.proofs.Shortest.{bytes-drop, both-hold}
+use Rattle.cbor.proofs.Shortest.{Bytes, bytes-drop, both-hold}
 use Rattle.cbor.proofs.Spelled.{token-complete, token-sound, given-some}
 
 -- a reader: the bytes behind what it read, or the bytes from the fault on
@@ -34,21 +34,10 @@ pub record Reads (read : Reader) (V : Type 0) (enc : V → List ℕ) (Fine : V �
 
 pub leaf-spelled : (l : Leaf) → encodeLeaf l ≡ spelled (says l)
 unfolding encodeLeaf
-leaf-spelled (number n) = refl
-leaf-spelled (negative n) = refl
-leaf-spelled (bytes bs) = refl
-leaf-spelled (text bs) = refl
-leaf-spelled (simple n) = refl
-
-leaf-fine : (l : Leaf) → FineLeaf l → FineSaid (says l)
-leaf-fine (number n) h = h
-leaf-fine (negative n) h = h
-leaf-fine (bytes bs) h = h
-leaf-fine (text bs) h = h
-leaf-fine (simple n) h = h
+leaf-spelled l = refl
 
 pub leaf-token : (l : Leaf) → FineLeaf l → (rest : List ℕ) → token (encodeLeaf l ++ rest) ≡ Some (record { said = says l; size = length (encodeLeaf l) })
-leaf-token l h rest = rw (leaf-spelled l) (token-complete (says l) (leaf-fine l h) rest)
+leaf-token l h rest = rw (leaf-spelled l) (token-complete (says l) h rest)
 
 -- an item that holds no others is a leaf
 as-leaf : (s : Said) → container s ≡ false → FineSaid s → (l : Leaf) × FineLeaf l × (s ≡ says l)

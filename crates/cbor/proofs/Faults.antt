@@ -13,9 +13,9 @@ use Rattle.std.specs.declared.result.Result.the-variants.{Ok, Err}
 use Rattle.std.proofs.shelf.Lists.{take-at, drop-at}
 use Rattle.cbor.specs.Steps.{orFail, andThen}
 use Rattle.cbor.specs.Reader.{Said, number, negative, bytes, text, array, map, simple, Token, token, container, key, items, entries, inside, item, deepest, ended, whole}
-use Rattle.cbor.specs.Grammar.{Value, Canonical, encode, encodeLeaf, Bytes, spelled}
+use Rattle.cbor.specs.Grammar.{Value, Canonical, encode, encodeLeaf, spelled}
 use Rattle.cbor.proofs.Keys.{never}
-use Rattle.cbor.proofs.Shortest.{bytes-drop}
+use Rattle.cbor.proofs.Shortest.{Bytes, bytes-drop}
 use Rattle.cbor.proofs.Spelled.{token-complete, token-sound}
 use Rattle.cbor.proofs.Exact.{Reader, Reads, bytes-behind, keyed, key-complete, item-reads}
 

@@ -5,12 +5,15 @@ use mathlib.Core.List.{List}
 use Prim.Native.Nat.{ℕ, suc, _+_, _-_, _≤_, _<_}
 use native.Mathlib.Omega.{arith}
 use lib.ListN.{length, take, drop, length-drop}
+use Rattle.std.specs.Options.{Cases as BySome}
+use Rattle.std.specs.Results.{Cases, okPart}
+use Rattle.std.specs.declared.option.Option.{Option}
 use Rattle.std.specs.declared.option.Option.the-variants.{Some, None}
 use Rattle.std.specs.declared.result.Result.{Result}
 use Rattle.std.specs.declared.result.Result.the-variants.{Ok, Err}
 use Rattle.cbor.specs.Steps.{given}
 use Rattle.cbor.specs.Reader.{Said, Found, item, deepest, placed, readAt}
-use Rattle.cbor.specs.Meaning.{meant, readTold}
+use Rattle.cbor.specs.Meaning.{meant, readTold, left}
 use Rattle.cbor.specs.declared.item.Item.{Item}
 use Rattle.cbor.specs.declared.item.Item.the-variants.{Number, Negative, Bytes, Text, Array, Map, False, True, Null}
 use Rattle.cbor.specs.declared.item.Part.{Part}
@@ -43,6 +46,11 @@ module _ (s : List ℕ) (at : ℕ) where
   unfolding endAt placed
   no-end us e = rw (← e) refl
 
+  -- an answer of the checker
+  pub ends-at : (r : Result ℕ Fault) (o : Option ℕ) → o ≡ okPart r → left s r ≡ item deepest (drop at s) → Cases r (λ end. (at < end) × (end ≤ length s)) (λ f. f .place ≤ length s) → record { answer : o ≡ endAt s at; within : BySome o (Unit {0}) (λ end. (at < end) × (end ≤ length s)) }
+  ends-at (Ok end) o e is h = rw e (record { answer = ends end (h .1) is; within = h })
+  ends-at (Err f) o e is h = rw e (record { answer = no-end (drop (f .place) s) is; within = tt })
+
   pub held-lost : (p : ℕ) → Err p ≡ readAt s at → None ≡ heldAt s at
   unfolding heldAt given
   held-lost p e = rw (← e) refl
@@ -61,24 +69,24 @@ module _ (wanted : Said → Bool) (s : List ℕ) (n i at : ℕ) where
   seek-none h = let e : n - i ≡ 0 = omega arith in rw e refl
 
   module _ (more : i < n) where
-    left : n - i ≡ suc (n - (i + 1))
-    left = omega arith
+    step : n - i ≡ suc (n - (i + 1))
+    step = omega arith
 
     pub seek-lost : (p : ℕ) → Err p ≡ readAt s at → None ≡ seekAt wanted s (n - i) at
     unfolding seekAt given
-    seek-lost p e = rw (left, ← e) refl
+    seek-lost p e = rw (step, ← e) refl
 
     pub seek-found : (f : Found) → Ok f ≡ readAt s at → wanted (f .said) ≡ true → Some (f .end) ≡ seekAt wanted s (n - i) at
     unfolding seekAt given
-    seek-found f e w = rw (left, ← e, w) refl
+    seek-found f e w = rw (step, ← e, w) refl
 
     pub seek-cut : (f : Found) → Ok f ≡ readAt s at → wanted (f .said) ≡ false → None ≡ endAt s (f .end) → None ≡ seekAt wanted s (n - i) at
     unfolding seekAt given
-    seek-cut f e w c = rw (left, ← e, w, ← c) refl
+    seek-cut f e w c = rw (step, ← e, w, ← c) refl
 
     pub seek-more : (f : Found) (next : ℕ) → Ok f ≡ readAt s at → wanted (f .said) ≡ false → Some next ≡ endAt s (f .end) → seekAt wanted s (n - (i + 1)) next ≡ seekAt wanted s (n - i) at
     unfolding seekAt given
-    seek-more f next e w c = rw (left, ← e, w, ← c) refl
+    seek-more f next e w c = rw (step, ← e, w, ← c) refl
 
 module _ (wanted : Said → Bool) (s : List ℕ) (at : ℕ) where
   pub field-lost : (p : ℕ) → Err p ≡ readAt s at → None ≡ fieldAt wanted s at

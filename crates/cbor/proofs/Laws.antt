@@ -11,7 +11,8 @@ use Rattle.std.proofs.shelf.Lists.{drop-take, take-at}
 use Rattle.std.proofs.shelf.Tests.{cases-lt}
 use Rattle.cbor.specs.Steps.{andThen}
 use Rattle.cbor.specs.Reader.{item, deepest, ended, whole, placed, checked}
-use Rattle.cbor.specs.Grammar.{encode, Bytes}
+use Rattle.cbor.specs.Grammar.{encode}
+use Rattle.cbor.proofs.Shortest.{Bytes}
 use Rattle.cbor.specs.Laws.{Exactly, First}
 use Rattle.cbor.proofs.Keys.{never}
 use Rattle.cbor.proofs.Exact.{then-ok, item-reads}

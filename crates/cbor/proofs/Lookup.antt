@@ -176,7 +176,7 @@ module _ (wanted : Said → Bool) (s : List ℕ) (levels : ℕ) (l : levels ≤ 
   field-of at p n r found e = rw (r, e) refl
 
   -- a value is handed out with its bytes
-  held-of : (p : ℕ) (v : Value levels) (rest : List ℕ) → Canonical levels v → drop p s ≡ encode levels v ++ rest → (h : Held) × (heldAt s p ≡ Some h) × (h .raw ≡ encode levels v) × (drop (h .found .place) s ≡ h .raw ++ rest)
+  held-of : (p : ℕ) (v : Value levels) (rest : List ℕ) → Canonical levels v → drop p s ≡ encode levels v ++ rest → (h : Held) × (heldAt s p ≡ Some h) × (readAt s (h .found .place) ≡ Ok (h .found)) × (h .raw ≡ encode levels v) × (drop (h .found .place) s ≡ h .raw ++ rest)
   unfolding heldAt given
   held-of p v rest fine e =
       let ends = end-of s p levels l v fine rest e in
@@ -184,7 +184,7 @@ module _ (wanted : Said → Bool) (s : List ℕ) (levels : ℕ) (l : levels ≤ 
       let r = read-of s p (t .0) (t .1) in
       let n : p + length (encode levels v) - p ≡ length (encode levels v) = omega arith in
       let raw : take (p + length (encode levels v) - p) (drop p s) ≡ encode levels v = ap (λ j. take j (drop p s)) n ∙ ap (take (length (encode levels v))) e ∙ take-at (encode levels v) rest (length (encode levels v)) refl in
-      (record { found = foundAt p (t .0); raw = take (p + length (encode levels v) - p) (drop p s) }, rw (r, ends) refl, raw, e ∙ ap (λ x. x ++ rest) (sym raw))
+      (record { found = foundAt p (t .0); raw = take (p + length (encode levels v) - p) (drop p s) }, rw (r, ends) refl, r, raw, e ∙ ap (λ x. x ++ rest) (sym raw))
 
 -- an entry among others is canonical
 entry-fine : (levels : ℕ) (front back : List (Leaf × Value levels)) (k : Leaf) (v : Value levels) (before : List ℕ) → Entries (Canonical levels) before (front ++ (k, v) ∷ back) → Canonical levels v
@@ -201,7 +201,7 @@ finds wanted s at =
           let o = opened wanted s levels l at all rest (fine .0) e in
           let q = seek-some wanted s levels l front back k v [] (o .0) rest (fine .1) (o .2) other here in
           let h = held-of wanted s levels l (q .0) v (joined (encodeEntry (encode levels)) back ++ rest) (entry-fine levels front back k v [] (fine .1)) (q .2) in
-          (h .0, field-of wanted s levels l at (o .0) (length all) (o .1) (Some (q .0)) (q .1) ∙ h .1, h .2, h .3);
+          (h .0, field-of wanted s levels l at (o .0) (length all) (o .1) (Some (q .0)) (q .1) ∙ h .1, h .2, h .3, h .4);
       none = λ levels less es rest fine e other.
           let l : levels ≤ deepest = omega arith in
           let o = opened wanted s levels l at es rest (fine .0) e in

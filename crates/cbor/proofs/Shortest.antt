@@ -12,8 +12,13 @@ use Rattle.std.specs.declared.option.Option.the-variants.{Some, None}
 use Rattle.std.proofs.shelf.Lists.{take-at, length-reverse, reverse-reverse, length-take-le}
 use Rattle.std.proofs.shelf.Tests.{le-leb, lt-ltb, le-ltb, cases-lt, cases-eq, leb-true}
 use Rattle.cbor.specs.Head.{Argument, argument, following, bigEndian, littleEndian}
-use Rattle.cbor.specs.Grammar.{digits, head, Bytes}
+use Rattle.cbor.specs.Grammar.{digits, head}
 use Rattle.cbor.proofs.Heads.{argument-low, argument-24, argument-25, argument-26, argument-27, argument-reserved}
+
+-- a list of bytes
+abbrev pub Bytes : List ℕ → Type 0
+Bytes [] = Unit {0}
+Bytes (b ∷ bs) = (b < 256) × Bytes bs
 
 pub bytes-take : (w : ℕ) (bs : List ℕ) → Bytes bs → Bytes (take w bs)
 bytes-take zero bs h = tt

@@ -14,9 +14,9 @@ use Rattle.std.proofs.shelf.Tests.{le-leb, cond-both, cases-eq, leb-true, ltb-t
 use Rattle.cbor.specs.Steps.{given}
 use Rattle.cbor.specs.Head.{Argument, argument}
 use Rattle.cbor.specs.Reader.{Said, number, negative, bytes, text, array, map, simple, Token, token, byMajor, string, simpleAt, stringSize}
-use Rattle.cbor.specs.Grammar.{head, Bytes, spelled, FineSaid}
+use Rattle.cbor.specs.Grammar.{head, spelled, FineSaid}
 use Rattle.cbor.proofs.Heads.{argument-low}
-use Rattle.cbor.proofs.Shortest.{headed, Written, written}
+use Rattle.cbor.proofs.Shortest.{Bytes, headed, Written, written}
 
 -- a head is read, and then what lies behind it
 token-head : (major n : ℕ) (rest : List ℕ) (s : Said) → n < 2 ^ 64 → ((info : ℕ) → byMajor major info n rest ≡ Some s) → token (head major n ++ rest) ≡ Some (record { said = s; size = length (head major n) + stringSize s })

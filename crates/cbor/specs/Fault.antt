@@ -3,7 +3,7 @@ use mathlib.Core.Path.{_≡_}
 use mathlib.Core.Bool.{true}
 use mathlib.Core.List.{List, [], _∷_, _++_}
 use mathlib.Core.Logic.{_⊎_}
-use Prim.Native.Nat.{ℕ, zero, suc, _≤_, _<_}
+use Prim.Native.Nat.{ℕ, zero, suc, _^_, _≤_, _<_}
 use lib.ListN.{length, drop}
 use Rattle.std.specs.Joined.{joined}
 use Rattle.std.specs.declared.result.Result.the-variants.{Err}
@@ -28,15 +28,15 @@ pub data Within (levels : ℕ) (Below : List ℕ → List ℕ → Type 0) (us ws
   -- at the first item
   unread : us ≡ ws → NoItem us → Within levels Below us ws
   -- in an array, behind some of its values
-  inArray : (count : ℕ) (values : List (Value levels)) (rest : List ℕ) → us ≡ head 4 count ++ (joined (encode levels) values ++ rest) → Each (Canonical levels) values → length values < count → Below rest ws → Within levels Below us ws
+  inArray : (count : ℕ) (values : List (Value levels)) (rest : List ℕ) → count < 2 ^ 64 → us ≡ head 4 count ++ (joined (encode levels) values ++ rest) → Each (Canonical levels) values → length values < count → Below rest ws → Within levels Below us ws
   -- in a map, behind some of its entries, at a key
-  atKey : (count : ℕ) (es : List (Leaf × Value levels)) → us ≡ head 5 count ++ (joined (encodeEntry (encode levels)) es ++ ws) → Entries (Canonical levels) [] es → length es < count → NoKey (lastKey [] es) ws → Within levels Below us ws
+  atKey : (count : ℕ) (es : List (Leaf × Value levels)) → count < 2 ^ 64 → us ≡ head 5 count ++ (joined (encodeEntry (encode levels)) es ++ ws) → Entries (Canonical levels) [] es → length es < count → NoKey (lastKey [] es) ws → Within levels Below us ws
   -- in a map, behind some of its entries and a key
-  inValue : (count : ℕ) (es : List (Leaf × Value levels)) (k : Leaf) (rest : List ℕ) → us ≡ head 5 count ++ (joined (encodeEntry (encode levels)) es ++ (encodeLeaf k ++ rest)) → Entries (Canonical levels) [] es → length es < count → IsKey k → FineLeaf k → precedes (lastKey [] es) (encodeLeaf k) ≡ true → Below rest ws → Within levels Below us ws
+  inValue : (count : ℕ) (es : List (Leaf × Value levels)) (k : Leaf) (rest : List ℕ) → count < 2 ^ 64 → us ≡ head 5 count ++ (joined (encodeEntry (encode levels)) es ++ (encodeLeaf k ++ rest)) → Entries (Canonical levels) [] es → length es < count → IsKey k → FineLeaf k → precedes (lastKey [] es) (encodeLeaf k) ≡ true → Below rest ws → Within levels Below us ws
 
 -- the first fault in the bytes us lies where ws begins, with so many levels left; where none is left, a map or an array is a fault itself
 abbrev pub Broken : ℕ → List ℕ → List ℕ → Type 0
-Broken zero us ws = (us ≡ ws) × (NoItem us ⊎ ((s : Said) × (rest : List ℕ) × (container s ≡ true) × (us ≡ spelled s ++ rest)))
+Broken zero us ws = (us ≡ ws) × (NoItem us ⊎ ((s : Said) × (rest : List ℕ) × (container s ≡ true) × FineSaid s × (us ≡ spelled s ++ rest)))
 Broken (suc levels) us ws = Within levels (Broken levels) us ws
 
 -- behind one canonical value lie surplus bytes

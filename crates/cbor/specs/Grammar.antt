@@ -37,17 +37,45 @@ digits (suc width) n = n % 256 ∷ digits width (n / 256)
 unfoldable pub head : ℕ → ℕ → List ℕ
 head major n =
     cond (ltb n 24) ((32 * major + n) ∷ [])
-    (cond (ltb n 256) ((32 * major + 24) ∷ reverse (digits 1 n))
-    (cond (ltb n 65536) ((32 * major + 25) ∷ reverse (digits 2 n))
-    (cond (ltb n 4294967296) ((32 * major + 26) ∷ reverse (digits 4 n)) ((32 * major + 27) ∷ reverse (digits 8 n)))))
+    (cond (ltb n (2 ^ 8)) ((32 * major + 24) ∷ reverse (digits 1 n))
+    (cond (ltb n (2 ^ 16)) ((32 * major + 25) ∷ reverse (digits 2 n))
+    (cond (ltb n (2 ^ 32)) ((32 * major + 26) ∷ reverse (digits 4 n)) ((32 * major + 27) ∷ reverse (digits 8 n)))))
+
+-- what a leaf says when it is read
+abbrev pub says : Leaf → Said
+says (number n) = reader.number n
+says (negative n) = reader.negative n
+says (bytes bs) = reader.bytes bs
+says (text bs) = reader.text bs
+says (simple n) = reader.simple n
+
+-- the bytes of an item's head and string
+abbrev pub spelled : Said → List ℕ
+spelled (reader.number n) = head 0 n
+spelled (reader.negative n) = head 1 n
+spelled (reader.bytes bs) = head 2 (length bs) ++ bs
+spelled (reader.text bs) = head 3 (length bs) ++ bs
+spelled (reader.array n) = head 4 n
+spelled (reader.map n) = head 5 n
+spelled (reader.simple n) = (224 + n) ∷ []
+
+-- arguments, lengths and counts are below 2^64, and of the simple values there are false, true and null
+abbrev pub FineSaid : Said → Type 0
+FineSaid (reader.number n) = n < 2 ^ 64
+FineSaid (reader.negative n) = n < 2 ^ 64
+FineSaid (reader.bytes bs) = length bs < 2 ^ 64
+FineSaid (reader.text bs) = length bs < 2 ^ 64
+FineSaid (reader.array n) = n < 2 ^ 64
+FineSaid (reader.map n) = n < 2 ^ 64
+FineSaid (reader.simple n) = (20 ≤ n) × (n ≤ 22)
 
 -- the encoding of a leaf
 unfoldable pub encodeLeaf : Leaf → List ℕ
-encodeLeaf (number n) = head 0 n
-encodeLeaf (negative n) = head 1 n
-encodeLeaf (bytes bs) = head 2 (length bs) ++ bs
-encodeLeaf (text bs) = head 3 (length bs) ++ bs
-encodeLeaf (simple n) = (224 + n) ∷ []
+encodeLeaf l = spelled (says l)
+
+-- a leaf is canonical
+abbrev pub FineLeaf : Leaf → Type 0
+FineLeaf l = FineSaid (says l)
 
 -- the encoding of a map's entry: the key, then its value
 unfoldable pub encodeEntry : {V : Type 0} → (V → List ℕ) → Leaf × V → List ℕ
@@ -63,22 +91,6 @@ encodeNode encodeValue (map es) = head 5 (length es) ++ joined (encodeEntry enco
 unfoldable pub encode : (levels : ℕ) → Value levels → List ℕ
 encode zero v = encodeLeaf v
 encode (suc levels) v = encodeNode (encode levels) v
-
--- what a leaf says when it is read
-abbrev pub says : Leaf → Said
-says (number n) = reader.number n
-says (negative n) = reader.negative n
-says (bytes bs) = reader.bytes bs
-says (text bs) = reader.text bs
-says (simple n) = reader.simple n
-
--- arguments and lengths are below 2^64, and of the simple values there are false, true and null
-abbrev pub FineLeaf : Leaf → Type 0
-FineLeaf (number n) = n < 2 ^ 64
-FineLeaf (negative n) = n < 2 ^ 64
-FineLeaf (bytes bs) = length bs < 2 ^ 64
-FineLeaf (text bs) = length bs < 2 ^ 64
-FineLeaf (simple n) = (20 ≤ n) × (n ≤ 22)
 
 -- a map key is a number, a negative number or a string
 abbrev pub IsKey : Leaf → Type 0
@@ -109,28 +121,3 @@ FineNode Fine (map es) = (length es < 2 ^ 64) × Entries Fine [] es
 abbrev pub Canonical : (levels : ℕ) → Value levels → Type 0
 Canonical zero v = FineLeaf v
 Canonical (suc levels) v = FineNode (Canonical levels) v
-
--- a list of bytes
-abbrev pub Bytes : List ℕ → Type 0
-Bytes [] = Unit {0}
-Bytes (b ∷ bs) = (b < 256) × Bytes bs
-
--- the bytes of an item's head and string
-abbrev pub spelled : Said → List ℕ
-spelled (reader.number n) = head 0 n
-spelled (reader.negative n) = head 1 n
-spelled (reader.bytes bs) = head 2 (length bs) ++ bs
-spelled (reader.text bs) = head 3 (length bs) ++ bs
-spelled (reader.array n) = head 4 n
-spelled (reader.map n) = head 5 n
-spelled (reader.simple n) = (224 + n) ∷ []
-
--- an item that can be written
-abbrev pub FineSaid : Said → Type 0
-FineSaid (reader.number n) = n < 2 ^ 64
-FineSaid (reader.negative n) = n < 2 ^ 64
-FineSaid (reader.bytes bs) = length bs < 2 ^ 64
-FineSaid (reader.text bs) = length bs < 2 ^ 64
-FineSaid (reader.array n) = n < 2 ^ 64
-FineSaid (reader.map n) = n < 2 ^ 64
-FineSaid (reader.simple n) = (20 ≤ n) × (n ≤ 22)

@@ -1,5 +1,5 @@
 -- The head of an item: an initial byte, and behind it the argument, in its shortest form only.
-use Prim.Native.Nat.{ℕ, _+_, _*_}
+use Prim.Native.Nat.{ℕ, _+_, _*_, _^_}
 use mathlib.Core.Bool.{cond}
 use mathlib.Core.List.{List, [], _∷_, reverse}
 use lib.ListN.{length, take}
@@ -31,6 +31,6 @@ unfoldable pub argument : ℕ → List ℕ → Option Argument
 argument info bs =
     cond (ltb info 24) (Some (record { value = info; width = 0 }))
     (cond (eqb info 24) (following 1 24 bs)
-    (cond (eqb info 25) (following 2 256 bs)
-    (cond (eqb info 26) (following 4 65536 bs)
-    (cond (eqb info 27) (following 8 4294967296 bs) None))))
+    (cond (eqb info 25) (following 2 (2 ^ 8) bs)
+    (cond (eqb info 26) (following 4 (2 ^ 16) bs)
+    (cond (eqb info 27) (following 8 (2 ^ 32) bs) None))))

@@ -9,7 +9,7 @@ use Rattle.std.specs.declared.option.Option.the-variants.{Some, None}
 use Rattle.std.specs.declared.result.Result.the-variants.{Ok, Err}
 use Rattle.cbor.specs.Finder.{Held, fieldAt}
 use Rattle.cbor.specs.Grammar.{Leaf, map, Value, Canonical, encode, encodeEntry, says, Each}
-use Rattle.cbor.specs.Reader.{Said, deepest, checked}
+use Rattle.cbor.specs.Reader.{Said, deepest, checked, readAt}
 
 -- the message from `start` on is read exactly where it is the encoding of a canonical value of at most four levels
 pub record Exactly (message : List ℕ) (start : ℕ) : Type 0 where
@@ -30,7 +30,7 @@ pub record Finds (wanted : Said → Bool) (message : List ℕ) (at : ℕ) : Type
   pub some : (levels : ℕ) → levels < deepest → (front back : List (Leaf × Value levels)) (k : Leaf) (v : Value levels) (rest : List ℕ)
       → Canonical (suc levels) (map (front ++ (k, v) ∷ back)) → drop at message ≡ encode (suc levels) (map (front ++ (k, v) ∷ back)) ++ rest
       → Other wanted front → wanted (says k) ≡ true
-      → (h : Held) × (fieldAt wanted message at ≡ Some h) × (h .raw ≡ encode levels v) × (drop (h .found .place) message ≡ h .raw ++ (joined (encodeEntry (encode levels)) back ++ rest))
+      → (h : Held) × (fieldAt wanted message at ≡ Some h) × (readAt message (h .found .place) ≡ Ok (h .found)) × (h .raw ≡ encode levels v) × (drop (h .found .place) message ≡ h .raw ++ (joined (encodeEntry (encode levels)) back ++ rest))
   pub none : (levels : ℕ) → levels < deepest → (es : List (Leaf × Value levels)) (rest : List ℕ)
       → Canonical (suc levels) (map es) → drop at message ≡ encode (suc levels) (map es) ++ rest
       → Other wanted es → fieldAt wanted message at ≡ None

@@ -31,7 +31,7 @@ pub record Token : Type 0 where
 unfoldable pub string : (List ℕ → Said) → ℕ → List ℕ → Option Said
 string kind n bs = cond (leb n (length bs)) (Some (kind (take n bs))) None
 
--- of the simple values only false, true and null are read
+-- the simple values that are allowed: false, true and null
 unfoldable pub simpleAt : ℕ → Option Said
 simpleAt info = cond (leb 20 info) (cond (ltb info 23) (Some (simple info)) None) None
 
@@ -69,7 +69,7 @@ below [] ys = false
 below (x ∷ xs) [] = false
 below (x ∷ xs) (y ∷ ys) = cond (eqb x y) (below xs ys) (ltb x y)
 
--- the order of encoded map keys: the lower major type first, then the shorter encoding, then byte order; nothing stands before the first key
+-- the order of encoded map keys: by major type, within one by length, within one length by bytes; the first key comes after nothing
 unfoldable pub precedes : List ℕ → List ℕ → Bool
 precedes [] ys = true
 precedes (x ∷ xs) [] = false
@@ -129,7 +129,7 @@ unfoldable pub item : ℕ → List ℕ → Result (List ℕ) (List ℕ)
 item zero us = orFail (token us) us (λ t. cond (container (t .said)) (Err us) (Ok (drop (t .size) us)))
 item (suc levels) us = orFail (token us) us (λ t. inside (item levels) (t .said) (drop (t .size) us))
 
--- maps and arrays nest to four levels
+-- how many maps and arrays may lie inside one another
 abbrev pub deepest : ℕ
 deepest = 4
 
@@ -157,6 +157,7 @@ pub record Found : Type 0 where
   pub place : ℕ
   pub end : ℕ
 
+-- an item at a place, with its end
 abbrev pub foundAt : ℕ → Token → Found
 foundAt at t = record { said = t .said; place = at; end = at + t .size }
 

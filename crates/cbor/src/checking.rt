@@ -14,7 +14,7 @@ use crate::item::Item;
 use crate::item::Part;
 use crate::reading::read;
 
-/// Maps and arrays nest to four levels.
+/// How many maps and arrays may lie inside one another, the outer one among them.
 pub(crate) const LEVELS: u8 = 4;
 
 /// Byte order between strings of equal length.
@@ -34,10 +34,10 @@ fn is_below(a: &[u8], b: &[u8]) -> bool
 fn comes_before(a: &[u8], b: &[u8]) -> bool
     ensures { λ r. ⌜ r ≡ precedes (now (a .entry)) (now (b .entry)) ⌝ }
 {
-    if a.len() == 0 {
+    if a.is_empty() {
         return true;
     }
-    if b.len() == 0 {
+    if b.is_empty() {
         return false;
     }
     let major = a[0] / 32;
@@ -52,10 +52,10 @@ fn comes_before(a: &[u8], b: &[u8]) -> bool
 }
 
 /// A map key is a number, a negative number or a string.
-fn may_be_key(item: &Item) -> bool
-    ensures { λ r. ⌜ r ≡ mayBeKey (meant (now (item .entry))) ⌝ }
+fn may_be_key(key: &Item) -> bool
+    ensures { λ r. ⌜ r ≡ mayBeKey (meant (now (key .entry))) ⌝ }
 {
-    match item {
+    match key {
         Item::Number(_) | Item::Negative(_) | Item::Bytes(_) | Item::Text(_) => true,
         _ => false,
     }

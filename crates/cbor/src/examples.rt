@@ -4,5 +4,5 @@ ghost use Rattle.cbor.specs.Examples.{Examples};
 
 /// The worked examples follow from the definitions.
 pub fn examples_hold()
-    ensures { λ _. ⌜ Examples ⌝ }
+    ensures examples { λ _. ⌜ Examples ⌝ }
 {}

@@ -45,10 +45,7 @@ fn item_end(message: &[u8], at: usize) -> Option<usize>
     ensures answer { λ r. ⌜ r ≡ endAt (now (message .entry)) at ⌝ }
     ensures within { λ r. ⌜ BySome r (Unit {0}) (λ end. (at < end) × (end ≤ length (now (message .entry)))) ⌝ }
 {
-    match check_item(message, at, LEVELS) {
-        Ok(end) => Some(end),
-        Err(_) => None,
-    }
+    check_item(message, at, LEVELS).ok()
 }
 
 /// Among so many entries, the place of the value whose key is looked for.

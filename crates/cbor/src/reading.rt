@@ -44,13 +44,17 @@ fn read_argument(info: u8, rest: &[u8]) -> Option<Argument>
     }
     match info {
         24 => shortest(u64::from(u8::from_be_bytes(*rest.first_chunk()?)), 24, 1),
-        25 => shortest(u64::from(u16::from_be_bytes(*rest.first_chunk()?)), 256, 2),
+        25 => shortest(
+            u64::from(u16::from_be_bytes(*rest.first_chunk()?)),
+            0x100,
+            2,
+        ),
         26 => shortest(
             u64::from(u32::from_be_bytes(*rest.first_chunk()?)),
-            65536,
+            0x1_0000,
             4,
         ),
-        27 => shortest(u64::from_be_bytes(*rest.first_chunk()?), 4294967296, 8),
+        27 => shortest(u64::from_be_bytes(*rest.first_chunk()?), 0x1_0000_0000, 8),
         _ => None,
     }
 }

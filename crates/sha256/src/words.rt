@@ -17,24 +17,28 @@ pub(crate) fn majority(x: u32, y: u32, z: u32) -> u32
     (x & y) ^ (x & z) ^ (y & z)
 }
 
+/// Σ0 of the rounds.
 pub(crate) fn big_sigma0(x: u32) -> u32
     ensures { λ r. ⌜ r ≡ Σ0 x ⌝ }
 {
     x.rotate_right(2) ^ x.rotate_right(13) ^ x.rotate_right(22)
 }
 
+/// Σ1 of the rounds.
 pub(crate) fn big_sigma1(x: u32) -> u32
     ensures { λ r. ⌜ r ≡ Σ1 x ⌝ }
 {
     x.rotate_right(6) ^ x.rotate_right(11) ^ x.rotate_right(25)
 }
 
+/// σ0 of the schedule.
 pub(crate) fn small_sigma0(x: u32) -> u32
     ensures { λ r. ⌜ r ≡ σ0 x ⌝ }
 {
     x.rotate_right(7) ^ x.rotate_right(18) ^ (x >> 3)
 }
 
+/// σ1 of the schedule.
 pub(crate) fn small_sigma1(x: u32) -> u32
     ensures { λ r. ⌜ r ≡ σ1 x ⌝ }
 {

@@ -4,11 +4,10 @@ use mir.Syntax.{w8}
 use mir.Val.{Fits}
 use lib.ListN.{getD, drop}
 use Rattle.std.proofs.shelf.Results.{err-from-errBy}
-use Rattle.cbor.specs.Grammar.{Bytes}
 use Rattle.cbor.proofs.Broken.{placed-law}
 use Rattle.cbor.proofs.Checks.{checked-fault, checked-surplus, checked-whole}
 use Rattle.cbor.proofs.Laws.{exactly, first, bytes-from}
-use Rattle.cbor.proofs.Shortest.{bytes-drop}
+use Rattle.cbor.proofs.Shortest.{Bytes, bytes-drop}
 use Rattle.cbor.proofs.checking.check.Needs as need
 
 -- a message holds bytes, from any place on

@@ -4,4 +4,4 @@ use Rattle.cbor.proofs.examples.examples_hold.Needs as need
 
 pub returns : need.returns
 unfolding reading
-returns c = refl
+returns c = record { examples = refl }

@@ -1,4 +1,3 @@
-use mathlib.Core.Path.{refl}
 use native.Mathlib.Omega.{arith}
 use Rattle.cbor.specs.Head.{bigEndian}
 use Rattle.cbor.proofs.Heads.{read-whole, read-cut, argument-low, argument-24, argument-25, argument-26, argument-27, argument-reserved}
