@@ -3,7 +3,7 @@ use mathlib.Core.Path.{_≡_}
 use Rattle.std.specs.declared.result.Result.{Result}
 use Rattle.std.specs.declared.result.Result.the-variants.{Ok, Err}
 use Rattle.keybench.specs.declared.wrong.Wrong.{Wrong}
-use Rattle.keybench.specs.declared.wrong.Wrong.the-variants.{Step, Words, Hex, Number, Memory, Work}
+use Rattle.keybench.specs.declared.wrong.Wrong.the-variants.{Step, Words, Hex, Number, Memory}
 
 -- go on with a value, or keep what is wrong
 abbrev pub andThen : {X Y : Type 0} → Result X Wrong → (X → Result Y Wrong) → Result Y Wrong
@@ -18,4 +18,3 @@ Answers meaning (Err Step) due = due ≡ Err Step
 Answers meaning (Err Words) due = due ≡ Err Words
 Answers meaning (Err Hex) due = due ≡ Err Hex
 Answers meaning (Err Number) due = due ≡ Err Number
-Answers meaning (Err Work) due = due ≡ Err Work

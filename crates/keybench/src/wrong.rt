@@ -1,9 +1,8 @@
 //! What can be wrong with a step.
 
 ghost use mathlib.Core.Path.{_≡_};
-ghost use Rattle.keybench.specs.declared.wrong.Wrong.the-variants.{Memory, Work};
+ghost use Rattle.keybench.specs.declared.wrong.Wrong.the-variants.{Memory};
 ghost use Rattle.keybench.specs.Worded.{wording};
-use sha256::WorkSize;
 use std::alloc::AllocError;
 use std::alloc::Refused;
 
@@ -14,7 +13,6 @@ pub enum Wrong {
     Hex,
     Number,
     Memory,
-    Work,
 }
 
 impl Wrong {
@@ -28,7 +26,6 @@ impl Wrong {
             Wrong::Hex => "bytes must be pairs of lower-case hex digits, or -",
             Wrong::Number => "SUB must be a decimal number from 0 to 255",
             Wrong::Memory => "out of memory",
-            Wrong::Work => "the work place must have 64 bytes",
         }
     }
 }
@@ -46,13 +43,5 @@ pub impl<T: Drop> From<Refused<T>> for Wrong as WrongFromRefused {
 
     fn from(_e: Refused<T>) -> Wrong {
         Wrong::Memory
-    }
-}
-
-pub impl From<WorkSize> for Wrong as WrongFromWorkSize {
-    ghost converts = { λ _ r. r ≡ Work };
-
-    fn from(_e: WorkSize) -> Wrong {
-        Wrong::Work
     }
 }

@@ -3,21 +3,20 @@ use native.Mathlib.Omega.{arith}
 use Rattle.std.specs.Of.Vec.{vec-items}
 use Rattle.std.specs.Options.{okOr}
 use Rattle.keybench.specs.declared.wrong.Wrong.the-variants.{Hex}
-use Rattle.std.proofs.shelf.Equals.{matches-decides}
 use Rattle.std.proofs.shelf.Tests.{eqb-true, eqb-false}
 use Rattle.std.proofs.shelf.Ways.{not-from-decides}
 use Rattle.keybench.proofs.Spelling.{read-dash, read-empty, read-odd, read-none, read-no-high, read-no-low, read-more, read-all, spells}
 use Rattle.keybench.proofs.hex.decode.Needs as need
 use Rattle.keybench.proofs.hex.decode.Needs.{then-is-empty·by·then-is-empty, then-is-empty·by·else-is-empty·then-text-ne0}
 
-pub returns-then-eq : need.returns-then-eq
-returns-then-eq c =
-    let d = read-dash _ _ (matches-decides _ _ _ (c .eq .ensures) .0 (c .if-eq .taken)) (c .new-bytes .ensures .items) in
+pub returns-then-same : need.returns-then-same
+returns-then-same c =
+    let d = read-dash _ _ (c .same .ensures .exactly .0 (c .if-same .taken)) (c .new-bytes .ensures .items) in
     record { answer = ap (λ o. okOr o Hex) d; exact = spells _ _ d }
 
 pub returns-then-is-empty : need.returns-then-is-empty
 returns-then-is-empty c =
-    let no-dash = not-from-decides _ (matches-decides _ _ _ (c .eq .ensures)) (c .if-eq .left) in
+    let no-dash = not-from-decides _ (c .same .ensures .exactly) (c .if-same .left) in
     record {
       answer =
           ap (λ o. okOr o Hex)
@@ -30,7 +29,7 @@ returns-then-is-empty c =
 
 pub loop-i-holds : need.loop-i-holds
 loop-i-holds c =
-    let no-dash = not-from-decides _ (matches-decides _ _ _ (c .eq .ensures)) (c .if-eq .left) in
+    let no-dash = not-from-decides _ (c .same .ensures .exactly) (c .if-same .left) in
     let some = eqb-false _ 0 (sym (c .is-empty .ensures) ∙ c .if-is-empty .left) in
     rw (c .new-bytes .ensures .items) (read-none _ (omega (arith, some)) no-dash)
 

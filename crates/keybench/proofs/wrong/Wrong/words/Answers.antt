@@ -15,6 +15,3 @@ returns-in-Number c = record { answer = rw (c .in-Number .is) refl }
 
 pub returns-in-Memory : need.returns-in-Memory
 returns-in-Memory c = record { answer = rw (c .in-Memory .is) refl }
-
-pub returns-in-Work : need.returns-in-Work
-returns-in-Work c = record { answer = rw (c .in-Work .is) refl }
