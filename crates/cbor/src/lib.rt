@@ -1,5 +1,7 @@
 //! Canonical CBOR, read as borrowed parts of a message, each with its place.
 
+#![tactic(auto)]
+
 mod checking;
 mod examples;
 mod finding;

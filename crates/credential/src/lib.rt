@@ -1,5 +1,7 @@
 //! Credential records, their slots, and what a store of records means.
 
+#![tactic(auto)]
+
 mod making;
 mod record;
 mod slot;

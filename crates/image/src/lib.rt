@@ -1,5 +1,7 @@
 //! Images of 512-byte slots, from which a store of records is opened.
 
+#![tactic(auto)]
+
 mod image;
 mod kind;
 mod opening;

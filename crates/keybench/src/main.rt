@@ -1,5 +1,7 @@
 //! A bench for the libraries: reads steps from standard input, one a line, and prints what each gives.
 
+#![tactic(auto)]
+
 mod bench;
 mod decimal;
 mod hex;

@@ -1,5 +1,7 @@
 //! Lines of plain text: their words, bytes as hex, and decimal numbers.
 
+#![tactic(auto)]
+
 pub mod decimal;
 pub mod hex;
 mod line;

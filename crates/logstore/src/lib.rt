@@ -1,5 +1,7 @@
 //! A store of credential records that logs what came and went.
 
+#![tactic(auto)]
+
 mod compaction;
 mod listing;
 mod log;

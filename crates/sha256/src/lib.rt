@@ -1,5 +1,7 @@
 //! SHA-256, HMAC-SHA-256 and the one comparison of byte strings.
 
+#![tactic(auto)]
+
 mod bytes;
 mod compression;
 mod constants;

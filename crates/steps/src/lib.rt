@@ -1,5 +1,7 @@
 //! The steps of the bench: what a line asks for, and what can be wrong with it.
 
+#![tactic(auto)]
+
 mod adding;
 mod parsing;
 mod step;

@@ -1,5 +1,7 @@
 //! The store that the bench keeps open: what the steps over it do and print.
 
+#![tactic(auto)]
+
 mod calls;
 mod carrying;
 mod held;

@@ -1,5 +1,7 @@
 //! The table store: one slot for each record, records in front and free slots behind them.
 
+#![tactic(auto)]
+
 mod closing;
 mod methods;
 mod table;

@@ -1,5 +1,7 @@
 //! Prints the digests of FIPS 180-4's vectors and the codes of RFC 4231's cases.
 
+#![tactic(auto)]
+
 ghost use Rattle.sha256.specs.Hmac.{hmac as mac, tag as cut};
 ghost use Rattle.std.specs.Prelude.{◌≡◌, ◌∷◌};
 

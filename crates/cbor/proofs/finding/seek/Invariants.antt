@@ -4,4 +4,4 @@ use Rattle.cbor.specs.Meaning.{named}
 use Rattle.cbor.proofs.finding.seek.Given as goal
 
 abbrev pub invariant-loop-i : goal.invariant-loop-i
-invariant-loop-i l = seek_at (named l.key) l.message (l.count - l.-i) l.at ≡ seek_at (named l.key) l.message l.count l.start
+invariant-loop-i l = seek_at (named l.key) l.message (l.count - l._i) l.at ≡ seek_at (named l.key) l.message l.count l.start

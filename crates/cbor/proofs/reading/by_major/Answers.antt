@@ -24,28 +24,28 @@ returns-in-5 c = rw c.in-5.is refl
 
 pub returns-in-7 : goal.returns-in-7
 unfolding by_major
-returns-in-7 c = rw c.in-7.is c.simple-item.ensures
+returns-in-7 c = rw c.in-7.is c.simple_item.ensures
 
-pub returns-in-default : goal.returns-in-default
+pub returns-in_default : goal.returns-in_default
 unfolding by_major
-returns-in-default c = grind (arith, nat_tests)
+returns-in_default c = grind (arith, nat_tests)
 
-pub returns-in-ok-read-string : goal.returns-in-ok-read-string
+pub returns-in_ok-read_string-in-2 : goal.returns-in_ok-read_string-in-2
 unfolding by_major
-returns-in-ok-read-string c =
-    rw c.in-2.is (string-some bytes _ _ _ c.read-string.ensures _ c.in-ok-read-string.was)
+returns-in_ok-read_string-in-2 c =
+    rw c.in-2.is (string-some bytes _ _ _ c.read_string.ensures _ c.in_ok-read_string-in-2.was)
 
-pub returns-in-ok-read-string-2 : goal.returns-in-ok-read-string-2
+pub returns-in_ok-read_string-in-3 : goal.returns-in_ok-read_string-in-3
 unfolding by_major
-returns-in-ok-read-string-2 c =
-    rw c.in-3.is (string-some text _ _ _ c.read-string-in-3.ensures _ c.in-ok-read-string-2.was)
+returns-in_ok-read_string-in-3 c =
+    rw c.in-3.is (string-some text _ _ _ c.read_string-in-3.ensures _ c.in_ok-read_string-in-3.was)
 
-pub returns-in-err-read-string : goal.returns-in-err-read-string
+pub returns-in_err-read_string-in-2 : goal.returns-in_err-read_string-in-2
 unfolding by_major
-returns-in-err-read-string c =
-    ap (option_map meant) c.from-residual.ensures ∙ rw c.in-2.is (string-none bytes _ _ _ c.read-string.ensures c.in-err-read-string.was)
+returns-in_err-read_string-in-2 c =
+    ap (option_map meant) c.from_residual.ensures ∙ rw c.in-2.is (string-none bytes _ _ _ c.read_string.ensures c.in_err-read_string-in-2.was)
 
-pub returns-in-err-read-string-2 : goal.returns-in-err-read-string-2
+pub returns-in_err-read_string-in-3 : goal.returns-in_err-read_string-in-3
 unfolding by_major
-returns-in-err-read-string-2 c =
-    ap (option_map meant) c.from-residual-in-err-read-string-2.ensures ∙ rw c.in-3.is (string-none text _ _ _ c.read-string-in-3.ensures c.in-err-read-string-2.was)
+returns-in_err-read_string-in-3 c =
+    ap (option_map meant) c.from_residual-in_err-read_string-in-3.ensures ∙ rw c.in-3.is (string-none text _ _ _ c.read_string-in-3.ensures c.in_err-read_string-in-3.was)

@@ -15,6 +15,6 @@ pub returns-in-22 : goal.returns-in-22
 unfolding simple_at
 returns-in-22 c = rw c.in-22.is refl
 
-pub returns-in-default : goal.returns-in-default
+pub returns-in_default : goal.returns-in_default
 unfolding simple_at
-returns-in-default c = grind (arith, nat_tests)
+returns-in_default c = grind (arith, nat_tests)

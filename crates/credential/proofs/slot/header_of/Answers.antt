@@ -7,4 +7,4 @@ use Rattle.credential.proofs.slot.header_of.Goals as goal
 pub returns : goal.returns
 returns c =
     let r = c.args.of.now in
-    header_from (model r) _ _ _ _ _ c.number-of.ensures (sym (length-content r.rp_id)) (sym (length-content r.user_id)) (sym (length-content r.name)) (sym (length-content r.display_name))
+    header_from (model r) _ _ _ _ _ c.number_of.ensures (sym (length-content r.rp_id)) (sym (length-content r.user_id)) (sym (length-content r.name)) (sym (length-content r.display_name))

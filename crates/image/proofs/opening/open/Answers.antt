@@ -13,13 +13,13 @@ returns-then-not-fits c =
     let unfit : fits kind im ≡ false = ap (fits kind) (sym c.deref.ensures.value) ∙ sym c.if-not-fits.ensures in
     record { answer = sym (ap counts (opened_unfitting kind im unfit)); image = refl; exactly = exactly kind im; first = first kind im }
 
-pub invariant-of-image : goal.invariant-of-image
-invariant-of-image c =
+pub invariant_of-image : goal.invariant_of-image
+invariant_of-image c =
     let kind = c.args.kind in
     let im = vec_items c.args.bytes in
     let fit : fits kind im ≡ true = ap (fits kind) (sym c.deref.ensures.value) ∙ sym c.if-not-fits.ensures in
     let size = sized kind im fit in
-    (omega (arith, c.args.bytes.ok), (omega (arith, c.args.bytes.ok), tt))
+    record { sized = omega (arith, c.args.bytes.ok); few = omega (arith, c.args.bytes.ok) }
 
 pub returns-in-Ok : goal.returns-in-Ok
 returns-in-Ok c =
@@ -33,4 +33,4 @@ returns-in-Err c =
     let kind = c.args.kind in
     let im = vec_items c.args.bytes in
     let fit : fits kind im ≡ true = ap (fits kind) (sym c.deref.ensures.value) ∙ sym c.if-not-fits.ensures in
-    record { answer = answer_is kind _ _ fit c.in-Err.ensures; image = c.into-bytes.ensures.answer; exactly = exactly kind im; first = first kind im }
+    record { answer = answer_is kind _ _ fit c.in-Err.ensures; image = c.into_bytes.ensures.answer; exactly = exactly kind im; first = first kind im }

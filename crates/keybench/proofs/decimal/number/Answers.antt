@@ -5,13 +5,13 @@ use Rattle.keybench.specs.Decimal.{is_digit}
 use Rattle.keybench.proofs.Digits.{digit_more, digit_none, digit_past, digit_all, numbered_some, numbered_none}
 use Rattle.keybench.proofs.decimal.number.Goals as goal
 
-pub returns-then-is-empty : goal.returns-then-is-empty
-returns-then-is-empty c =
-    record { answer = sym (numbered_none _ (eqb-true _ 0 (sym c.is-empty.ensures ∙ c.if-is-empty.true))) }
+pub returns-then-is_empty : goal.returns-then-is_empty
+returns-then-is_empty c =
+    record { answer = sym (numbered_none _ (eqb-true _ 0 (sym c.is_empty.ensures ∙ c.if-is_empty.true))) }
 
 pub loop-c-init : goal.loop-c-init
 loop-c-init c =
-    let some = eqb-false _ 0 (sym c.is-empty.ensures ∙ c.if-is-empty.false) in
+    let some = eqb-false _ 0 (sym c.is_empty.ensures ∙ c.if-is_empty.false) in
     (numbered_some _ (omega (arith, some)), omega arith)
 
 pub returns-then-c-lt48 : goal.returns-then-c-lt48

@@ -2,11 +2,11 @@ use Rattle.std.proofs.Common.{sym, ◌∙◌}
 use Rattle.std.proofs.lemmas.Bool.{eqb-true}
 use Rattle.keybench.proofs.Cuts.{content_none, content_other}
 use Rattle.keybench.proofs.line.content.Goals as goal
-use Rattle.keybench.proofs.line.content.Goals.{then-is-empty-via-then-is-empty, then-is-empty-via-else-is-empty+then-line-ne10}
+use Rattle.keybench.proofs.line.content.Goals.{then-is_empty-via-then-is_empty, then-is_empty-via-else-is_empty+then-line-ne10}
 
-pub returns-then-is-empty : goal.returns-then-is-empty
-returns-then-is-empty c =
-    elim c.then-is-empty.branch [
-      | then-is-empty-via-then-is-empty w ↦ sym (content_none _ (eqb-true _ 0 (sym c.is-empty.ensures ∙ w.if-is-empty.true)))
-      | then-is-empty-via-else-is-empty+then-line-ne10 w ↦ sym (content_other _ w.if-line-ne10.true)
+pub returns-then-is_empty : goal.returns-then-is_empty
+returns-then-is_empty c =
+    elim c.then-is_empty.branch [
+      | then-is_empty-via-then-is_empty w ↦ sym (content_none _ (eqb-true _ 0 (sym c.is_empty.ensures ∙ w.if-is_empty.true)))
+      | then-is_empty-via-else-is_empty+then-line-ne10 w ↦ sym (content_other _ w.if-line-ne10.true)
     ]

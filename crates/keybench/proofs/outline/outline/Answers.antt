@@ -3,7 +3,7 @@ use Rattle.keybench.proofs.Levels.{outlined_none, outlined_more, entered_first, 
 use Rattle.cbor.proofs.Fields.{no_item}
 use Rattle.keybench.specs.Outlined.{Outlined, Chained}
 use Rattle.keybench.proofs.outline.outline.Goals as goal
-use Rattle.keybench.proofs.outline.outline.Goals.{then-loop-at-test+else-len-le-MAX-LEVELS, else-loop-at-test, then-loop-at-test+then-len-le-MAX-LEVELS+in-default}
+use Rattle.keybench.proofs.outline.outline.Goals.{then-loop-at-test+else-len-le-MAX_LEVELS, else-loop-at-test, then-loop-at-test+then-len-le-MAX_LEVELS+in_default}
 
 pub loop-at-init : goal.loop-at-init
 loop-at-init c =
@@ -12,7 +12,7 @@ loop-at-init c =
 
 pub loop-at-preserved : goal.loop-at-preserved
 loop-at-preserved c =
-    let pushed = c.in-ok-push.ensures.items in
+    let pushed = c.in_ok-push.ensures.items in
     let outer = vec_items c.loop-at.awaited in
     let level = c.len-level.ensures ∙ c.loop-at.awaited.ok.0 in
     let inv = c.loop-at.invariant in
@@ -21,8 +21,8 @@ loop-at-preserved c =
     let after = vec_items c.push.new.self in (
       outlined_more before after _ outer _ pushed level (omega arith) read.within.0 inv.2 inv.0,
       outlined_more before after _ outer _ pushed level (omega arith) c.loop-at-test.true inv.2 inv.0,
-      entered-next before after _ outer (vec_items c.enter.new.awaited) pushed c.in-ok-enter.ensures.after inv.2,
-      chain_more _ _ before after _ _ pushed inv.3 read.answer c.held-by-inside.ensures,
+      entered-next before after _ outer (vec_items c.enter.new.awaited) pushed c.in_ok-enter.ensures.after inv.2,
+      chain_more _ _ before after _ _ pushed inv.3 read.answer c.held_by-inside.ensures,
     )
 
 pub returns : goal.returns
@@ -36,9 +36,9 @@ returns c =
         end = c.loop-at.at;
         chain = inv.3;
         whole = λ less. elim c.loop-at-test.branch [
-          | then-loop-at-test+else-len-le-MAX-LEVELS w ↦ inr (too_deep _ _ _ inv.2 (w.len.ensures ∙ c.loop-at.awaited.ok.0) w.if-len-le-MAX-LEVELS.false)
+          | then-loop-at-test+else-len-le-MAX_LEVELS w ↦ inr (too_deep _ _ _ inv.2 (w.len.ensures ∙ c.loop-at.awaited.ok.0) w.if-len-le-MAX_LEVELS.false)
           | else-loop-at-test w ↦ absurd (omega (arith, w.loop-at-test.false))
-          | then-loop-at-test+then-len-le-MAX-LEVELS+in-default w ↦ inl (let n = no_item _ _ w.read.ensures.answer w.in-default.not-Ok in (n.0, sym n.1))
+          | then-loop-at-test+then-len-le-MAX_LEVELS+in_default w ↦ inl (let n = no_item _ _ w.read.ensures.answer w.in_default.not-Ok in (n.0, sym n.1))
         ];
       });
     }

@@ -4,7 +4,7 @@ use Rattle.keybench.proofs.show.quote.Goals as goal
 
 pub loop-b-preserved : goal.loop-b-preserved
 loop-b-preserved c =
-    characters_more _ _ _ _ _ c.loop-b-test.true c.in-ok-push-character.ensures.text c.loop-b.invariant
+    characters_more _ _ _ _ _ c.loop-b-test.true c.in_ok-push_character.ensures.text c.loop-b.invariant
 
 pub returns : goal.returns
 returns c =

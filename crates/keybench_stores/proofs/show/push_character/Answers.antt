@@ -6,6 +6,6 @@ pub returns : goal.returns
 returns c =
     record {
       text =
-          escaped _ _ _ _ c.args.b (sym c.is-plain.ensures ∙ c.if-is-plain.false) c.in-ok-push-str.ensures.bytes
-          c.in-ok-push-str-2.ensures.bytes (c.as-str.ensures.value ∙ c.in-ok-digits.ensures.text);
+          escaped _ _ _ _ c.args.b (sym c.is_plain.ensures ∙ c.if-is_plain.false) c.in_ok-push_str.ensures.bytes
+          c.in_ok-push_str-2.ensures.bytes (c.as_str.ensures.value ∙ c.in_ok-digits.ensures.text);
     }

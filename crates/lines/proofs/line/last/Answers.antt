@@ -6,5 +6,5 @@ use Rattle.lines.proofs.line.last.Goals as goal
 
 pub returns-in-Some : goal.returns-in-Some
 returns-in-Some c =
-    let parts = headed_parts _ _ _ c.in-ok-first.ensures.answer in
-    record { answer = sym (ap single parts ∙ ap (λ r. single (c.in-ok-first.field-0.first.now ∷ words_of r)) c.in-Some.is ∙ single_more _ _) }
+    let parts = headed_parts _ _ _ c.in_ok-first.ensures.answer in
+    record { answer = sym (ap single parts ∙ ap (λ r. single (c.in_ok-first.field-0.first.now ∷ words_of r)) c.in-Some.is ∙ single_more _ _) }

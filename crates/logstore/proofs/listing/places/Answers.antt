@@ -14,9 +14,9 @@ pub loop-k-preserved : goal.loop-k-preserved
 loop-k-preserved c =
     let ss = cells c.args.image.now in
     let k = c.loop-k.k in
-    let is = c.from-bytes.ensures.answer ∙ ap content_of c.slot.ensures.answer in (
-      omega (arith, ap length c.follow.ensures, length_seen k (held c.loop-k.places) (told c.from-bytes.result)),
-      places_more k (held c.loop-k.places) (held c.follow.new.self) ss (told c.from-bytes.result) (omega arith) is c.follow.ensures ∙ c.loop-k.invariant.1,
+    let is = c.from_bytes.ensures.answer ∙ ap content_of c.slot.ensures.answer in (
+      omega (arith, ap length c.follow.ensures, length_seen k (held c.loop-k.places) (told c.from_bytes.result)),
+      places_more k (held c.loop-k.places) (held c.follow.new.self) ss (told c.from_bytes.result) (omega arith) is c.follow.ensures ∙ c.loop-k.invariant.1,
     )
 
 pub returns : goal.returns

@@ -5,7 +5,7 @@ use Rattle.sha256.proofs.Blocks.{words_more, words_all, extend_more, extend_none
 use Rattle.sha256.proofs.compression.message_schedule.Goals as goal
 
 pub loop-t-preserved : goal.loop-t-preserved
-loop-t-preserved c = let e = words_more c.args.block.now c.loop-t.w c.loop-t.t c.word-at.result (omega arith) (omega arith) c.word-at.ensures in (simp length-set (omega arith), cc)
+loop-t-preserved c = let e = words_more c.args.block.now c.loop-t.w c.loop-t.t c.word_at.result (omega arith) (omega arith) c.word_at.ensures in (simp length-set (omega arith), cc)
 
 pub loop-t-2-init : goal.loop-t-2-init
 loop-t-2-init c = (c.loop-t.invariant.0, ap (extend 48) (words_all c.args.block.now c.loop-t.w _ c.loop-t.t (omega arith) (omega arith) c.loop-t.invariant.1))

@@ -19,32 +19,32 @@ returns-then-input-used c =
     let lt : length h < 64 = omega arith in
     record {
       compressed = sym (blocks_small c.args.state h lt);
-      kept = kept_from h h c.copy-at.new.buffer (drop (u + length x) b) (u + length x) (sym (tail_small h lt)) n (rw (append_assoc (take u b) x (drop (u + length x) b)) c.copy-at.ensures);
+      kept = kept_from h h c.copy_at.new.buffer (drop (u + length x) b) (u + length x) (sym (tail_small h lt)) n (rw (append_assoc (take u b) x (drop (u + length x) b)) c.copy_at.ensures);
     }
 
-pub copy-at-requires-2 : goal.copy-at-requires-2
-copy-at-requires-2 c = omega (arith, ap length c.compress-whole.ensures.rest, length-tail c.split-at.result.1.now)
+pub copy_at-requires-2 : goal.copy_at-requires-2
+copy_at-requires-2 c = omega (arith, ap length c.compress_whole.ensures.rest, length-tail c.split_at.result.1.now)
 
 -- what is left after the buffer leads to the whole
-Left : (c : goal.After-copy-at-2) → Type 0
+Left : (c : goal.After-copy_at-2) → Type 0
 Left c =
-    (blocks (whole c.split-at.result.1.now) c.if-used-gt0.state c.split-at.result.1.now ≡ blocks (whole (take c.args.used c.args.buffer.now ++ c.args.input.now)) c.args.state (take c.args.used c.args.buffer.now ++ c.args.input.now))
-    × (tail c.split-at.result.1.now ≡ tail (take c.args.used c.args.buffer.now ++ c.args.input.now))
+    (blocks (whole c.split_at.result.1.now) c.if-used-gt0.state c.split_at.result.1.now ≡ blocks (whole (take c.args.used c.args.buffer.now ++ c.args.input.now)) c.args.state (take c.args.used c.args.buffer.now ++ c.args.input.now))
+    × (tail c.split_at.result.1.now ≡ tail (take c.args.used c.args.buffer.now ++ c.args.input.now))
 
-left : (c : goal.After-copy-at-2) → Left c
+left : (c : goal.After-copy_at-2) → Left c
 unfolding Left
 left c =
     let b = c.args.buffer.now in
     let x = c.args.input.now in
     let u = c.args.used in
     let h = take u b ++ x in
-    let head = c.split-at.result.0.now in
-    let rest = c.split-at.result.1.now in
-    let parts = c.split-at.ensures.by_index.0 in
+    let head = c.split_at.result.0.now in
+    let rest = c.split_at.result.1.now in
+    let parts = c.split_at.ensures.by_index.0 in
     elim c.if-used-gt0.branch [
       | then-used-gt0 w ↦
-          let full = w.copy-at-then-used-gt0.new.buffer in
-          let is = filled b x head rest full u parts (omega arith) w.copy-at-then-used-gt0.ensures in
+          let full = w.copy_at-then-used-gt0.new.buffer in
+          let is = filled b x head rest full u parts (omega arith) w.copy_at-then-used-gt0.ensures in
           let s = block_first c.args.state h full rest is (omega arith) in
           let t = tail_first h full rest is (omega arith) in
           (cc, cc)
@@ -61,8 +61,8 @@ returns c =
     let u = c.args.used in
     let h = take u b ++ x in
     let l = left c in
-    let t = c.compress-whole.result.1.now in
+    let t = c.compress_whole.result.1.now in
     record {
-      compressed = c.compress-whole.ensures.compressed ∙ l.0;
-      kept = kept_from h t c.copy-at-2.new.buffer _ (u + length x) (c.compress-whole.ensures.rest ∙ l.1) (length-held b x u (omega arith) (omega arith)) c.copy-at-2.ensures;
+      compressed = c.compress_whole.ensures.compressed ∙ l.0;
+      kept = kept_from h t c.copy_at-2.new.buffer _ (u + length x) (c.compress_whole.ensures.rest ∙ l.1) (length-held b x u (omega arith) (omega arith)) c.copy_at-2.ensures;
     }

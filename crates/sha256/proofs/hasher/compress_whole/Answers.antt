@@ -18,7 +18,7 @@ loop-block-preserved c =
 pub returns : goal.returns
 returns c =
     let m = c.loop-block.left.now in
-    let lt : length m < 64 = c.in-default.ensures.cases in
+    let lt : length m < 64 = c.in_default.ensures.cases in
     record {
       compressed = sym (blocks_small c.loop-block.state m lt) ∙ c.loop-block.invariant.0;
       rest = sym (tail_small m lt) ∙ c.loop-block.invariant.1;

@@ -8,7 +8,7 @@ pub returns : goal.returns
 unfolding agreed
 returns c =
     let e : c.same.result ≡ agreed c.args.token.now (c.args.first ∷ c.args.rest.now) c.args.given.now =
-    c.same.ensures.answer ∙ ap (λ t. bytes_eq t c.args.given.now) c.in-ok-expected.ensures.answer in
+    c.same.ensures.answer ∙ ap (λ t. bytes_eq t c.args.given.now) c.in_ok-expected.ensures.answer in
     record {
       answer = e;
       exactly = agreed_decides c.same.result c.args.token.now (c.args.first ∷ c.args.rest.now) c.args.given.now e;

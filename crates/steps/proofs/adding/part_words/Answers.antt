@@ -2,37 +2,37 @@ use Rattle.std.proofs.Common.{rules}
 use Rattle.steps.specs.Eight.{eight}
 use Rattle.steps.proofs.adding.part_words.Goals as goal
 
-pub returns-in-err-protect : goal.returns-in-err-protect
+pub returns-in_err-protect : goal.returns-in_err-protect
 unfolding eight
-returns-in-err-protect c = search rules
+returns-in_err-protect c = search rules
 
-pub returns-in-err-rp-id : goal.returns-in-err-rp-id
+pub returns-in_err-rp_id : goal.returns-in_err-rp_id
 unfolding eight
-returns-in-err-rp-id c = search rules
+returns-in_err-rp_id c = search rules
 
-pub returns-in-err-user-id : goal.returns-in-err-user-id
+pub returns-in_err-user_id : goal.returns-in_err-user_id
 unfolding eight
-returns-in-err-user-id c = search rules
+returns-in_err-user_id c = search rules
 
-pub returns-in-err-name : goal.returns-in-err-name
+pub returns-in_err-name : goal.returns-in_err-name
 unfolding eight
-returns-in-err-name c = search rules
+returns-in_err-name c = search rules
 
-pub returns-in-err-display-name : goal.returns-in-err-display-name
+pub returns-in_err-display_name : goal.returns-in_err-display_name
 unfolding eight
-returns-in-err-display-name c = search rules
+returns-in_err-display_name c = search rules
 
-pub returns-in-err-credential-id : goal.returns-in-err-credential-id
+pub returns-in_err-credential_id : goal.returns-in_err-credential_id
 unfolding eight
-returns-in-err-credential-id c = search rules
+returns-in_err-credential_id c = search rules
 
-pub returns-in-err-x : goal.returns-in-err-x
+pub returns-in_err-x : goal.returns-in_err-x
 unfolding eight
-returns-in-err-x c = search rules
+returns-in_err-x c = search rules
 
-pub returns-in-err-y : goal.returns-in-err-y
+pub returns-in_err-y : goal.returns-in_err-y
 unfolding eight
-returns-in-err-y c = search rules
+returns-in_err-y c = search rules
 
 pub returns : goal.returns
 unfolding eight

@@ -8,20 +8,20 @@ pub returns-in-Nothing : goal.returns-in-Nothing
 unfolding image_text
 returns-in-Nothing c = record { text = inl (ap (λ s. image_text (state_of s)) c.in-Nothing.is) }
 
-pub returns-in-ok-line : goal.returns-in-ok-line
+pub returns-in_ok-line : goal.returns-in_ok-line
 unfolding image_text
-returns-in-ok-line c =
+returns-in_ok-line c =
     record {
       text =
           ap (λ s. image_text (state_of s)) c.in-Table.is
-          ∙ sym (ap Ok (c.in-ok-line.ensures.text ∙ ap (bytes_line (codes "image")) c.bytes.ensures.answer));
+          ∙ sym (ap Ok (c.in_ok-line.ensures.text ∙ ap (bytes_line (codes "image")) c.bytes.ensures.answer));
     }
 
-pub returns-in-ok-line-2 : goal.returns-in-ok-line-2
+pub returns-in_ok-line-2 : goal.returns-in_ok-line-2
 unfolding image_text
-returns-in-ok-line-2 c =
+returns-in_ok-line-2 c =
     record {
       text =
           ap (λ s. image_text (state_of s)) c.in-Log.is
-          ∙ sym (ap Ok (c.in-ok-line-2.ensures.text ∙ ap (bytes_line (codes "image")) c.bytes-in-Log.ensures.answer));
+          ∙ sym (ap Ok (c.in_ok-line-2.ensures.text ∙ ap (bytes_line (codes "image")) c.bytes-in-Log.ensures.answer));
     }

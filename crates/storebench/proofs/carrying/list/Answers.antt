@@ -8,12 +8,12 @@ pub returns-in-Nothing : goal.returns-in-Nothing
 unfolding listed
 returns-in-Nothing c = record { text = inl (ap (λ s. listed (state_of s)) c.in-Nothing.is) }
 
-pub returns-in-ok-list-text : goal.returns-in-ok-list-text
+pub returns-in_ok-list_text : goal.returns-in_ok-list_text
 unfolding listed
-returns-in-ok-list-text c =
-    record { text = ap (λ s. listed (state_of s)) c.in-Table.is ∙ sym (ap Ok c.in-ok-list-text.ensures.text) }
+returns-in_ok-list_text c =
+    record { text = ap (λ s. listed (state_of s)) c.in-Table.is ∙ sym (ap Ok c.in_ok-list_text.ensures.text) }
 
-pub returns-in-ok-list-text-2 : goal.returns-in-ok-list-text-2
+pub returns-in_ok-list_text-2 : goal.returns-in_ok-list_text-2
 unfolding listed
-returns-in-ok-list-text-2 c =
-    record { text = ap (λ s. listed (state_of s)) c.in-Log.is ∙ sym (ap Ok c.in-ok-list-text-2.ensures.text) }
+returns-in_ok-list_text-2 c =
+    record { text = ap (λ s. listed (state_of s)) c.in-Log.is ∙ sym (ap Ok c.in_ok-list_text-2.ensures.text) }

@@ -7,6 +7,6 @@ pub returns : goal.returns
 unfolding open_text
 returns c =
     record {
-      text = subst (λ f. IfOk c.open-line.result (λ s. string_bytes s ≡ open_line f)) c.open-opening.ensures.answer c.open-line.ensures.text;
+      text = subst (λ f. IfOk c.open_line.result (λ s. string_bytes s ≡ open_line f)) c.open-opening.ensures.answer c.open_line.ensures.text;
       state = c.open-opening.ensures.state;
     }

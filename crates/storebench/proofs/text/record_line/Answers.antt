@@ -7,14 +7,14 @@ use Rattle.storebench.proofs.text.record_line.Goals as goal
 pub returns : goal.returns
 returns c =
     let is = record_line_lem c.args.place (given c.fields-fields.result) _ _ _ _ _ _ _ _ _
-    c.in-ok-line.ensures.ok
-    c.in-ok-push-word.ensures.text
-    c.in-ok-push-word-2.ensures.text
-    c.in-ok-push-word-3.ensures.text
-    c.in-ok-push-word-4.ensures.text
-    c.in-ok-push-word-5.ensures.text
-    c.in-ok-push-word-6.ensures.text
-    c.in-ok-push-word-7.ensures.text
-    c.in-ok-push-str.ensures.bytes
+    c.in_ok-line.ensures.ok
+    c.in_ok-push_word.ensures.text
+    c.in_ok-push_word-2.ensures.text
+    c.in_ok-push_word-3.ensures.text
+    c.in_ok-push_word-4.ensures.text
+    c.in_ok-push_word-5.ensures.text
+    c.in_ok-push_word-6.ensures.text
+    c.in_ok-push_word-7.ensures.text
+    c.in_ok-push_str.ensures.bytes
     in
-    record { text = subst (λ m. string_bytes c.push-str.new.self ≡ record_line c.args.place m) c.fields-fields.ensures.answer is }
+    record { text = subst (λ m. string_bytes c.push_str.new.self ≡ record_line c.args.place m) c.fields-fields.ensures.answer is }

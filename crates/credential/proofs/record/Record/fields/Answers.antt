@@ -6,5 +6,5 @@ use Rattle.credential.proofs.record.Record.fields.Goals as goal
 
 pub returns : goal.returns
 returns c =
-    let same = same_rec _ (model c.args.self.now) c.as-slice.ensures c.as-slice-2.ensures c.as-slice-3.ensures c.as-slice-4.ensures refl refl refl c.number-of.ensures in
+    let same = same_rec _ (model c.args.self.now) c.as_slice.ensures c.as_slice-2.ensures c.as_slice-3.ensures c.as_slice-4.ensures refl refl refl c.number_of.ensures in
     record { answer = same; within = ap is_within same ∙ model_within c.args.self.now }

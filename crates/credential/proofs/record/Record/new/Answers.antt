@@ -5,52 +5,52 @@ use Rattle.credential.specs.Rec.{is_within}
 use Rattle.credential.proofs.Records.{same_rec}
 use Rattle.credential.proofs.record.Record.new.Goals as goal
 
-pub returns-in-err-rp-id : goal.returns-in-err-rp-id
+pub returns-in_err-rp_id : goal.returns-in_err-rp_id
 unfolding is_within
-returns-in-err-rp-id c =
-    let p = err_from_is_err_and c.from-residual.result c.from-residual.ensures.1 in
+returns-in_err-rp_id c =
+    let p = err_from_is_err_and c.from_residual.result c.from_residual.ensures.1 in
     rw p.1 (record { answer = grind (arith, nat_tests); «record» = tt })
 
-pub returns-in-err-user-id : goal.returns-in-err-user-id
+pub returns-in_err-user_id : goal.returns-in_err-user_id
 unfolding is_within
-returns-in-err-user-id c =
-    let p = err_from_is_err_and c.from-residual-in-err-user-id.result c.from-residual-in-err-user-id.ensures.1 in
+returns-in_err-user_id c =
+    let p = err_from_is_err_and c.from_residual-in_err-user_id.result c.from_residual-in_err-user_id.ensures.1 in
     rw p.1 (record { answer = grind (arith, nat_tests); «record» = tt })
 
-pub returns-in-err-name : goal.returns-in-err-name
+pub returns-in_err-name : goal.returns-in_err-name
 unfolding is_within
-returns-in-err-name c =
-    let p = err_from_is_err_and c.from-residual-in-err-name.result c.from-residual-in-err-name.ensures.1 in
+returns-in_err-name c =
+    let p = err_from_is_err_and c.from_residual-in_err-name.result c.from_residual-in_err-name.ensures.1 in
     rw p.1 (record { answer = grind (arith, nat_tests); «record» = tt })
 
-pub returns-in-err-display-name : goal.returns-in-err-display-name
+pub returns-in_err-display_name : goal.returns-in_err-display_name
 unfolding is_within
-returns-in-err-display-name c =
-    let p = err_from_is_err_and c.from-residual-in-err-display-name.result c.from-residual-in-err-display-name.ensures.1 in
+returns-in_err-display_name c =
+    let p = err_from_is_err_and c.from_residual-in_err-display_name.result c.from_residual-in_err-display_name.ensures.1 in
     rw p.1 (record { answer = grind (arith, nat_tests); «record» = tt })
 
-pub returns-in-err-credential-id : goal.returns-in-err-credential-id
+pub returns-in_err-credential_id : goal.returns-in_err-credential_id
 unfolding is_within
-returns-in-err-credential-id c =
-    let p = err_from_is_err_and c.from-residual-in-err-credential-id.result c.from-residual-in-err-credential-id.ensures.1 in
+returns-in_err-credential_id c =
+    let p = err_from_is_err_and c.from_residual-in_err-credential_id.result c.from_residual-in_err-credential_id.ensures.1 in
     rw p.1 (record { answer = grind (arith, nat_tests); «record» = tt })
 
-pub returns-in-err-x : goal.returns-in-err-x
+pub returns-in_err-x : goal.returns-in_err-x
 unfolding is_within
-returns-in-err-x c =
-    let p = err_from_is_err_and c.from-residual-in-err-x.result c.from-residual-in-err-x.ensures.1 in
+returns-in_err-x c =
+    let p = err_from_is_err_and c.from_residual-in_err-x.result c.from_residual-in_err-x.ensures.1 in
     rw p.1 (record { answer = grind (arith, nat_tests); «record» = tt })
 
-pub returns-in-err-y : goal.returns-in-err-y
+pub returns-in_err-y : goal.returns-in_err-y
 unfolding is_within
-returns-in-err-y c =
-    let p = err_from_is_err_and c.from-residual-in-err-y.result c.from-residual-in-err-y.ensures.1 in
+returns-in_err-y c =
+    let p = err_from_is_err_and c.from_residual-in_err-y.result c.from_residual-in_err-y.ensures.1 in
     rw p.1 (record { answer = grind (arith, nat_tests); «record» = tt })
 
-pub returns-in-err-cred-protect : goal.returns-in-err-cred-protect
+pub returns-in_err-cred_protect : goal.returns-in_err-cred_protect
 unfolding is_within
-returns-in-err-cred-protect c =
-    let p = err_from_is_err_and c.from-residual-in-err-cred-protect.result c.from-residual-in-err-cred-protect.ensures.1 in
+returns-in_err-cred_protect c =
+    let p = err_from_is_err_and c.from_residual-in_err-cred_protect.result c.from_residual-in_err-cred_protect.ensures.1 in
     rw p.1 (record { answer = grind (arith, nat_tests); «record» = tt })
 
 pub returns : goal.returns
@@ -58,6 +58,6 @@ unfolding is_within
 returns c =
     record {
       answer = grind (arith, nat_tests);
-      «record» = same_rec _ _ c.in-ok-rp-id.ensures.text c.in-ok-user-id.ensures.text c.in-ok-name.ensures.text c.in-ok-display-name.ensures.text
-          c.in-ok-credential-id.ensures.bytes c.in-ok-x.ensures.bytes c.in-ok-y.ensures.bytes c.in-ok-cred-protect.ensures.number;
+      «record» = same_rec _ _ c.in_ok-rp_id.ensures.text c.in_ok-user_id.ensures.text c.in_ok-name.ensures.text c.in_ok-display_name.ensures.text
+          c.in_ok-credential_id.ensures.bytes c.in_ok-x.ensures.bytes c.in_ok-y.ensures.bytes c.in_ok-cred_protect.ensures.number;
     }

@@ -5,4 +5,4 @@ use Rattle.credential.proofs.record.Record.rp_id_hash.Goals as goal
 
 pub returns : goal.returns
 unfolding party
-returns c = record { answer = c.digest.ensures.answer ∙ ap sha256 c.as-slice.ensures }
+returns c = record { answer = c.digest.ensures.answer ∙ ap sha256 c.as_slice.ensures }

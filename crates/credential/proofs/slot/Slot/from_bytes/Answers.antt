@@ -20,11 +20,11 @@ returns-then-same-2 c =
       exactly = exact c.args.bytes.now;
     }
 
-pub returns-in-err-record : goal.returns-in-err-record
+pub returns-in_err-record : goal.returns-in_err-record
 unfolding free
-returns-in-err-record c =
+returns-in_err-record c =
     record {
-      answer = ap told c.from-residual.ensures ∙ c.in-err-record.ensures ∙ reads_rest c.args.bytes.now _ c.if-same.ensures.answer c.withdrawal.ensures.answer c.if-same-2.ensures.answer;
+      answer = ap told c.from_residual.ensures ∙ c.in_err-record.ensures ∙ reads_rest c.args.bytes.now _ c.if-same.ensures.answer c.withdrawal.ensures.answer c.if-same-2.ensures.answer;
       exactly = exact c.args.bytes.now;
     }
 
@@ -32,6 +32,6 @@ pub returns : goal.returns
 unfolding free
 returns c =
     record {
-      answer = c.in-ok-record.ensures ∙ reads_rest c.args.bytes.now _ c.if-same.ensures.answer c.withdrawal.ensures.answer c.if-same-2.ensures.answer;
+      answer = c.in_ok-record.ensures ∙ reads_rest c.args.bytes.now _ c.if-same.ensures.answer c.withdrawal.ensures.answer c.if-same-2.ensures.answer;
       exactly = exact c.args.bytes.now;
     }

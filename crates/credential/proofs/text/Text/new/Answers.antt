@@ -3,10 +3,15 @@ use Rattle.std.proofs.lemmas.Bool.Decides.{nat_tests}
 use Rattle.credential.proofs.Padding.{length-padded, front-padded, back-padded}
 use Rattle.credential.proofs.text.Text.new.Goals as goal
 
-pub invariant-of-result : goal.invariant-of-result
-invariant-of-result g c =
+pub invariant_of-result : goal.invariant_of-result
+invariant_of-result g c =
     let e = c.padded-bytes.ensures in
-    (length-padded _ _ _ c.if-len-2.false e, (c.if-len.false, (c.if-len-2.false, (back-padded c.args.text.now _ _ e, tt))))
+    record {
+      sized = length-padded _ _ _ c.if-len-2.false e;
+      enough = c.if-len.false;
+      within = c.if-len-2.false;
+      padded = back-padded c.args.text.now _ _ e;
+    }
 
 pub returns : goal.returns
 returns g c = record { size = grind (arith, nat_tests); text = front-padded c.args.text.now _ _ c.padded-bytes.ensures }

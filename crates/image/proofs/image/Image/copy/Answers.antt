@@ -6,7 +6,7 @@ use Rattle.image.proofs.image.Image.copy.Goals.{else-from-self-via-then-from-sel
 pub returns-then-to-self : goal.returns-then-to-self
 returns-then-to-self c =
     let im = c.args.self.now in
-    let is = cells_copy im _ c.args.from c.args.to refl c.if-from-self.true c.if-to-self.true c.copy-within.ensures.items in
+    let is = cells_copy im _ c.args.from c.args.to refl c.if-from-self.true c.if-to-self.true c.copy_within.ensures.items in
     record { written = is; kept = same_length im _ c.args.to _ is }
 
 pub returns-else-from-self : goal.returns-else-from-self

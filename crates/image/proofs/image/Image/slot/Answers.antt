@@ -6,4 +6,4 @@ pub returns-then-k-self : goal.returns-then-k-self
 returns-then-k-self c = record { answer = sym (cell_past c.args.self.now c.args.k c.if-k-self.true) }
 
 pub returns : goal.returns
-returns c = record { answer = cell_part c.args.self.now c.as-slice-all.result.now c.args.k c.as-slice-all.ensures.value c.if-k-self.false }
+returns c = record { answer = cell_part c.args.self.now c.as_slice-all.result.now c.args.k c.as_slice-all.ensures.value c.if-k-self.false }

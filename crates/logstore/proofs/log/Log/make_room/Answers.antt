@@ -18,8 +18,8 @@ compact-requires c =
     let ss = cells c.args.self.now.image in
     subst (Ahead (length ss)) (sym c.places-places.ensures) (ahead_listed ss)
 
-pub invariant-of-self : goal.invariant-of-self
-invariant-of-self c =
+pub invariant_of-self : goal.invariant_of-self
+invariant_of-self c =
     let g = c.args.self.now in
     let k = compaction g.image _ _ g.opens c.places-places.ensures c.compact.ensures in
     let rs = records_in (bytes_of g.image) in

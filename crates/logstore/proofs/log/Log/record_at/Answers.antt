@@ -11,7 +11,7 @@ at-requires c = omega (arith, length_listed c.args.self.now.image _ c.args.self.
 pub unreachable-requires : goal.unreachable-requires
 unreachable-requires c =
     let g = c.args.self.now in
-    none_read _ _ c.in-default.ensures.answer
+    none_read _ _ c.in_default.ensures.answer
     (ap record_of (record_in_lem g.image _ _ c.args.place _ blank g.opens c.places-places.ensures (omega arith) c.at.ensures c.slot.ensures.answer))
 
 pub returns : goal.returns

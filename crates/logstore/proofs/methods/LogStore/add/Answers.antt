@@ -14,27 +14,27 @@ use Rattle.logstore.specs.Standing.{Logged, one_more}
 use Rattle.logstore.proofs.methods.LogStore.add.Goals as goal
 use Rattle.logstore.proofs.methods.LogStore.add.Goals.{After-write}
 
-pub overflow-add-self : goal.overflow-add-self
-overflow-add-self c = omega (arith, length-cells c.make-room.new.self.image)
+pub overflow_add-self : goal.overflow_add-self
+overflow_add-self c = omega (arith, length-cells c.make_room.new.self.image)
 
-pub overflow-add-self-2 : goal.overflow-add-self-2
-overflow-add-self-2 c = omega (arith, length-cells c.args.self.now.image)
+pub overflow_add-self-2 : goal.overflow_add-self-2
+overflow_add-self-2 c = omega (arith, length-cells c.args.self.now.image)
 
 -- the log after the write
-after : (c : goal.After-write) → Logged c.args.self.now.image c.write.new.self (put (model c.args.new.now)) c.make-room.new.self.used
+after : (c : goal.After-write) → Logged c.args.self.now.image c.write.new.self (put (model c.args.new.now)) c.make_room.new.self.used
 after c =
     let g = c.args.self.now in
-    let m = c.make-room.new.self in
-    let e = c.make-room.ensures in
+    let m = c.make_room.new.self in
+    let e = c.make_room.ensures in
     one_more g.image m.image c.write.new.self (put (model c.args.new.now)) m.used m.opens e.entries e.slots m.filled e.free
     (came (omega (arith, capacity_slots kind g.image)) (model_within c.args.new.now) done)
-    (c.write.ensures.written ∙ ap (set (cells m.image) m.used) c.to-slot.ensures.answer)
+    (c.write.ensures.written ∙ ap (set (cells m.image) m.used) c.to_slot.ensures.answer)
 
-pub invariant-of-self : goal.invariant-of-self
-invariant-of-self c =
+pub invariant_of-self : goal.invariant_of-self
+invariant_of-self c =
     let l = after c in
     let g = c.args.self.now in
-    let same : length (records_in (bytes_of g.image)) ≡ c.make-room.new.self.count = g.listed ∙ sym c.make-room.ensures.count in
+    let same : length (records_in (bytes_of g.image)) ≡ c.make_room.new.self.count = g.listed ∙ sym c.make_room.ensures.count in
     (l.ok, (l.many, (ap length l.records ∙ length_push (records_in (bytes_of g.image)) (model c.args.new.now) ∙ ap (λ n. n + 1) same, tt)))
 
 pub returns : goal.returns

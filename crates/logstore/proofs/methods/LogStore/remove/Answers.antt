@@ -12,26 +12,26 @@ use Rattle.logstore.specs.Standing.{Logged, one_more, stands-opened, stands_few}
 use Rattle.logstore.proofs.methods.LogStore.remove.Goals as goal
 use Rattle.logstore.proofs.methods.LogStore.remove.Goals.{After-write}
 
-pub overflow-cast-place : goal.overflow-cast-place
-overflow-cast-place c =
+pub overflow_cast-place : goal.overflow_cast-place
+overflow_cast-place c =
     let g = c.args.self.now in
     omega (arith, stands_few g.image _ (stands-opened g.image g.opens), length-cells g.image)
 
-pub overflow-add-self : goal.overflow-add-self
-overflow-add-self c = omega (arith, length-cells c.make-room.new.self.image)
+pub overflow_add-self : goal.overflow_add-self
+overflow_add-self c = omega (arith, length-cells c.make_room.new.self.image)
 
 -- the log after the write
-after : (c : goal.After-write) → Logged c.args.self.now.image c.write.new.self (gone c.args.place) c.make-room.new.self.used
+after : (c : goal.After-write) → Logged c.args.self.now.image c.write.new.self (gone c.args.place) c.make_room.new.self.used
 after c =
     let g = c.args.self.now in
-    let m = c.make-room.new.self in
-    let e = c.make-room.ensures in
+    let m = c.make_room.new.self in
+    let e = c.make_room.ensures in
     one_more g.image m.image c.write.new.self (gone c.args.place) m.used m.opens e.entries e.slots m.filled e.free
     (went refl (omega arith) done)
     (c.write.ensures.written ∙ ap (set (cells m.image) m.used) c.withdrawal.ensures.answer)
 
-pub invariant-of-self : goal.invariant-of-self
-invariant-of-self c =
+pub invariant_of-self : goal.invariant_of-self
+invariant_of-self c =
     let l = after c in
     let rs = records_in (bytes_of c.args.self.now.image) in
     (l.ok, (l.many, (ap length l.records ∙ omega (arith, length-remove rs c.args.place (omega arith)), tt)))

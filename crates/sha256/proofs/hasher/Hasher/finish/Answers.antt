@@ -8,4 +8,4 @@ unfolding length_field
 returns c m fed =
     let first = c.update.ensures m fed in
     let second = c.update-2.ensures _ first in
-    c.to-bytes.ensures ∙ digest_is c.update-2.new.self m _ second (padded_is c.args.self m _ _ fed (rw c.used.ensures) c.to-be-bytes.ensures)
+    c.to_bytes.ensures ∙ digest_is c.update-2.new.self m _ second (padded_is c.args.self m _ _ fed (rw c.used.ensures) c.to_be_bytes.ensures)

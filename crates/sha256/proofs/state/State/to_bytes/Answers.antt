@@ -6,7 +6,7 @@ use Rattle.sha256.proofs.state.State.to_bytes.Goals as goal
 
 pub loop-i-preserved : goal.loop-i-preserved
 unfolding bytes
-loop-i-preserved c = (search (rules, places), bytes_more _ c.loop-i.out c.copy-from-slice.new.self c.loop-i.i _ c.loop-i.invariant.0 (omega arith) (omega arith) c.loop-i.invariant.1 (c.copy-from-slice.ensures.after ∙ c.to-be-bytes.ensures))
+loop-i-preserved c = (search (rules, places), bytes_more _ c.loop-i.out c.copy_from_slice.new.self c.loop-i.i _ c.loop-i.invariant.0 (omega arith) (omega arith) c.loop-i.invariant.1 (c.copy_from_slice.ensures.after ∙ c.to_be_bytes.ensures))
 
 pub returns : goal.returns
 unfolding digest_of

@@ -14,8 +14,8 @@ unfolding add_answer after_add
 returns-in-Table c =
     let r = whole c.args.parts.now in
     record {
-      answer = ap Ok c.add-to.ensures.answer ∙ sym (ap (λ s. add_answer (state_of s) r) c.in-Table.is);
-      state = ap (holding Table) c.add-to.ensures.image ∙ sym (ap (λ s. after_add (state_of s) r) c.in-Table.is);
+      answer = ap Ok c.add_to.ensures.answer ∙ sym (ap (λ s. add_answer (state_of s) r) c.in-Table.is);
+      state = ap (holding Table) c.add_to.ensures.image ∙ sym (ap (λ s. after_add (state_of s) r) c.in-Table.is);
     }
 
 pub returns-in-Log : goal.returns-in-Log
@@ -23,6 +23,6 @@ unfolding add_answer after_add
 returns-in-Log c =
     let r = whole c.args.parts.now in
     record {
-      answer = ap Ok c.add-to-in-Log.ensures.answer ∙ sym (ap (λ s. add_answer (state_of s) r) c.in-Log.is);
-      state = ap (holding Log) c.add-to-in-Log.ensures.image ∙ sym (ap (λ s. after_add (state_of s) r) c.in-Log.is);
+      answer = ap Ok c.add_to-in-Log.ensures.answer ∙ sym (ap (λ s. add_answer (state_of s) r) c.in-Log.is);
+      state = ap (holding Log) c.add_to-in-Log.ensures.image ∙ sym (ap (λ s. after_add (state_of s) r) c.in-Log.is);
     }

@@ -5,7 +5,7 @@ use Rattle.storebench.proofs.held.Held.open.Goals as goal
 
 pub returns-in-Ok : goal.returns-in-Ok
 returns-in-Ok c =
-    let fill = c.fill-of-fill.ensures in
+    let fill = c.fill_of-fill.ensures in
     let both = open_ok _ Table c.in-Ok.table.image _ _ _ _ c.in-Table.is c.in-Ok.ensures.answer (ap vec_items c.in-Ok.ensures.image) fill.count fill.capacity in
     record { answer = both.0; state = both.1 }
 
@@ -16,7 +16,7 @@ returns-in-Table c =
 
 pub returns-in-Ok-open : goal.returns-in-Ok-open
 returns-in-Ok-open c =
-    let fill = c.fill-of-fill-in-Ok-open.ensures in
+    let fill = c.fill_of-fill-in-Ok-open.ensures in
     let both = open_ok _ Log c.in-Ok-open.log.image _ _ _ _ c.in-Log.is c.in-Ok-open.ensures.answer (ap vec_items c.in-Ok-open.ensures.image) fill.count fill.capacity in
     record { answer = both.0; state = both.1 }
 

@@ -3,13 +3,13 @@ use Rattle.std.proofs.lemmas.Bool.Decides.{nat_tests}
 use Rattle.table.specs.Kept.{table_bounds, after_add_lem, counted_add}
 use Rattle.table.proofs.methods.TableStore.add.Goals as goal
 
-pub overflow-add-self : goal.overflow-add-self
-overflow-add-self c = let b = table_bounds c.args.self.now in omega (arith, b.few, b.most)
+pub overflow_add-self : goal.overflow_add-self
+overflow_add-self c = let b = table_bounds c.args.self.now in omega (arith, b.few, b.most)
 
-pub invariant-of-self : goal.invariant-of-self
-invariant-of-self c =
+pub invariant_of-self : goal.invariant_of-self
+invariant_of-self c =
     let t = c.args.self.now in
-    let s = after_add_lem t c.write.new.self c.args.new.now c.to-slot.result c.len.result c.len.ensures.answer c.if-count-len.false c.to-slot.ensures.answer c.write.ensures.written in
+    let s = after_add_lem t c.write.new.self c.args.new.now c.to_slot.result c.len.result c.len.ensures.answer c.if-count-len.false c.to_slot.ensures.answer c.write.ensures.written in
     (s.opens, (counted_add t c.write.new.self _ s, tt))
 
 pub returns-then-count-len : goal.returns-then-count-len
@@ -22,7 +22,7 @@ returns-then-count-len c =
 pub returns : goal.returns
 returns c =
     let t = c.args.self.now in
-    let s = after_add_lem t c.write.new.self c.args.new.now c.to-slot.result c.len.result c.len.ensures.answer c.if-count-len.false c.to-slot.ensures.answer c.write.ensures.written in
+    let s = after_add_lem t c.write.new.self c.args.new.now c.to_slot.result c.len.result c.len.ensures.answer c.if-count-len.false c.to_slot.ensures.answer c.write.ensures.written in
     let low = (table_bounds t).few in
     let room = (table_bounds t).room in
     let is = t.counted in

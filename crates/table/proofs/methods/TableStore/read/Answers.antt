@@ -23,7 +23,7 @@ pub unreachable-requires : goal.unreachable-requires
 unreachable-requires c =
     let t = c.args.self.now in
     let is = t.counted in
-    none_read _ _ c.in-default.ensures.answer
+    none_read _ _ c.in_default.ensures.answer
     (ap (λ s. record_of (content_of s)) c.slot.ensures.answer ∙ ap record_of (reads t.image t.opens c.args.place (model c.args.into.now) (omega arith)))
 
 pub returns : goal.returns

@@ -6,8 +6,8 @@ use Rattle.table.proofs.methods.TableStore.remove.Goals as goal
 pub close-requires : goal.close-requires
 close-requires c = record { place = c.if-place-count.false; count = (table_bounds c.args.self.now).few }
 
-pub invariant-of-self : goal.invariant-of-self
-invariant-of-self c =
+pub invariant_of-self : goal.invariant_of-self
+invariant_of-self c =
     let t = c.args.self.now in
     let s = after_remove_lem t c.close.new.image c.args.place c.if-place-count.false c.close.ensures.slots in
     (s.opens, (counted-remove t c.close.new.image c.args.place c.if-place-count.false s, tt))
