@@ -8,7 +8,7 @@ pub returns : goal.returns
 returns c =
     let kind = c.args.kind in
     let before = state_of c.args.held.now in
-    let zeros : vec_items c.in_ok-image.image ≡ blank_image c.min-slots.result = c.in_ok-image.ensures.items-if-clones-equal (λ y e. e) in
+    let zeros : vec_items c.in_ok-image.image ≡ blank_image c.min-slots.result = c.in_ok-image.ensures.items_if_clones_equal (λ y e. e) in
     let both = blank_open kind c.args.slots c.min-slots.result before c.min-slots.ensures in
     let after = c.«open».ensures.state ∙ ap (λ im. after_open kind im before) zeros ∙ both.1 in
     record {

@@ -8,20 +8,20 @@ pub returns-in-Nothing : goal.returns-in-Nothing
 unfolding image_text
 returns-in-Nothing c = record { text = inl (ap (λ s. image_text (state_of s)) c.in-Nothing.is) }
 
-pub returns-in_ok-line : goal.returns-in_ok-line
+pub returns-in_ok-line-in-Table : goal.returns-in_ok-line-in-Table
 unfolding image_text
-returns-in_ok-line c =
+returns-in_ok-line-in-Table c =
     record {
       text =
           ap (λ s. image_text (state_of s)) c.in-Table.is
-          ∙ sym (ap Ok (c.in_ok-line.ensures.text ∙ ap (bytes_line (codes "image")) c.bytes.ensures.answer));
+          ∙ sym (ap Ok (c.in_ok-line-in-Table.ensures.text ∙ ap (bytes_line (codes "image")) c.bytes.ensures.answer));
     }
 
-pub returns-in_ok-line-2 : goal.returns-in_ok-line-2
+pub returns-in_ok-line-in-Log : goal.returns-in_ok-line-in-Log
 unfolding image_text
-returns-in_ok-line-2 c =
+returns-in_ok-line-in-Log c =
     record {
       text =
           ap (λ s. image_text (state_of s)) c.in-Log.is
-          ∙ sym (ap Ok (c.in_ok-line-2.ensures.text ∙ ap (bytes_line (codes "image")) c.bytes-in-Log.ensures.answer));
+          ∙ sym (ap Ok (c.in_ok-line-in-Log.ensures.text ∙ ap (bytes_line (codes "image")) c.bytes-in-Log.ensures.answer));
     }

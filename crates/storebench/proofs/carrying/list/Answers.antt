@@ -8,12 +8,12 @@ pub returns-in-Nothing : goal.returns-in-Nothing
 unfolding listed
 returns-in-Nothing c = record { text = inl (ap (λ s. listed (state_of s)) c.in-Nothing.is) }
 
-pub returns-in_ok-list_text : goal.returns-in_ok-list_text
+pub returns-in_ok-list_text-in-Table : goal.returns-in_ok-list_text-in-Table
 unfolding listed
-returns-in_ok-list_text c =
-    record { text = ap (λ s. listed (state_of s)) c.in-Table.is ∙ sym (ap Ok c.in_ok-list_text.ensures.text) }
+returns-in_ok-list_text-in-Table c =
+    record { text = ap (λ s. listed (state_of s)) c.in-Table.is ∙ sym (ap Ok c.in_ok-list_text-in-Table.ensures.text) }
 
-pub returns-in_ok-list_text-2 : goal.returns-in_ok-list_text-2
+pub returns-in_ok-list_text-in-Log : goal.returns-in_ok-list_text-in-Log
 unfolding listed
-returns-in_ok-list_text-2 c =
-    record { text = ap (λ s. listed (state_of s)) c.in-Log.is ∙ sym (ap Ok c.in_ok-list_text-2.ensures.text) }
+returns-in_ok-list_text-in-Log c =
+    record { text = ap (λ s. listed (state_of s)) c.in-Log.is ∙ sym (ap Ok c.in_ok-list_text-in-Log.ensures.text) }

@@ -23,7 +23,7 @@ invariant_of-self c =
     let g = c.args.self.now in
     let k = compaction g.image _ _ g.opens c.places-places.ensures c.compact.ensures in
     let rs = records_in (bytes_of g.image) in
-    (k.ok, (ap length k.entries ∙ length-map rs put ∙ g.listed, (ap (λ es. length (replay [] es)) k.entries ∙ ap length (replay_puts rs) ∙ g.listed, tt)))
+    record { opens = k.ok; filled = ap length k.entries ∙ length-map rs put ∙ g.listed; listed = ap (λ es. length (replay [] es)) k.entries ∙ ap length (replay_puts rs) ∙ g.listed }
 
 pub returns : goal.returns
 returns c =

@@ -35,7 +35,7 @@ invariant_of-self c =
     let l = after c in
     let g = c.args.self.now in
     let same : length (records_in (bytes_of g.image)) ≡ c.make_room.new.self.count = g.listed ∙ sym c.make_room.ensures.count in
-    (l.ok, (l.many, (ap length l.records ∙ length_push (records_in (bytes_of g.image)) (model c.args.new.now) ∙ ap (λ n. n + 1) same, tt)))
+    record { opens = l.ok; filled = l.many; listed = ap length l.records ∙ length_push (records_in (bytes_of g.image)) (model c.args.new.now) ∙ ap (λ n. n + 1) same }
 
 pub returns : goal.returns
 returns c =

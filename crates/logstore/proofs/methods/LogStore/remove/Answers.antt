@@ -34,7 +34,7 @@ pub invariant_of-self : goal.invariant_of-self
 invariant_of-self c =
     let l = after c in
     let rs = records_in (bytes_of c.args.self.now.image) in
-    (l.ok, (l.many, (ap length l.records ∙ omega (arith, length-remove rs c.args.place (omega arith)), tt)))
+    record { opens = l.ok; filled = l.many; listed = ap length l.records ∙ omega (arith, length-remove rs c.args.place (omega arith)) }
 
 pub returns : goal.returns
 returns c =

@@ -10,7 +10,7 @@ pub invariant_of-self : goal.invariant_of-self
 invariant_of-self c =
     let t = c.args.self.now in
     let s = after_add_lem t c.write.new.self c.args.new.now c.to_slot.result c.len.result c.len.ensures.answer c.if-count-len.false c.to_slot.ensures.answer c.write.ensures.written in
-    (s.opens, (counted_add t c.write.new.self _ s, tt))
+    record { opens = s.opens; counted = counted_add t c.write.new.self _ s }
 
 pub returns-then-count-len : goal.returns-then-count-len
 returns-then-count-len c =

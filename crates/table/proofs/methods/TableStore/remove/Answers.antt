@@ -10,7 +10,7 @@ pub invariant_of-self : goal.invariant_of-self
 invariant_of-self c =
     let t = c.args.self.now in
     let s = after_remove_lem t c.close.new.image c.args.place c.if-place-count.false c.close.ensures.slots in
-    (s.opens, (counted-remove t c.close.new.image c.args.place c.if-place-count.false s, tt))
+    record { opens = s.opens; counted = counted-remove t c.close.new.image c.args.place c.if-place-count.false s }
 
 pub returns : goal.returns
 returns c =
