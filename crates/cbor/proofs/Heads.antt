@@ -6,7 +6,7 @@ use Rattle.std.proofs.lemmas.Bool.Decides.{nat_tests}
 use Rattle.std.specs.Array.{IsFirstChunk}
 use Rattle.cbor.specs.declared.reading.Argument as code
 use Rattle.cbor.specs.Meaning.{argument_told}
-use Rattle.cbor.specs.Head.{Argument, argument, following, big_endian}
+use Rattle.cbor.specs.Head.{argument, following, big_endian}
 
 -- w elements from place i on, one by one
 abbrev pub firsts : ℕ → ℕ → List ℕ → List ℕ

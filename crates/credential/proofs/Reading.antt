@@ -1,8 +1,8 @@
 -- What each way through the reading of a slot gives.
-use Rattle.std.proofs.Common.{◌≡◌, ℕ, Bool, true, false, cond, ◌&&◌, List, get_or, Some, None, Option, sym, refl, ap, ◌∙◌}
+use Rattle.std.proofs.Common.{◌≡◌, ℕ, Bool, true, false, cond, ◌&&◌, List, get_or, Some, None, sym, refl, ap, ◌∙◌}
 use Rattle.std.specs.Str.{bytes_eq}
 use Rattle.credential.specs.Rec.{Rec, is_within}
-use Rattle.credential.specs.Slot.{put, gone, Content, empty, holds, slot, withdrawal, free, fields_in, record_in, content_of}
+use Rattle.credential.specs.Slot.{put, gone, empty, holds, slot, withdrawal, free, fields_in, record_in, content_of}
 
 -- the fields are outside their limits
 pub no_record : (bs : List ℕ) (r s : Rec) → r ≡ s → false ≡ is_within r → None ≡ record_in bs s

@@ -1,11 +1,11 @@
 -- What is read of a slot: exactly what was written there.
-use Rattle.std.proofs.Common.{◌≡◌, ℕ, ◌+◌, ◌-◌, ◌≤◌, Bool, true, false, cond, ◌&&◌, List, [], ◌∷◌, ◌++◌, length, get_or, take, drop, replicate, Some, None, Option, sym, refl, ap, ◌∙◌, subst, ⊎_elim, arith}
+use Rattle.std.proofs.Common.{◌≡◌, ℕ, ◌+◌, ◌-◌, ◌≤◌, Bool, true, false, cond, ◌&&◌, List, ◌++◌, length, get_or, take, drop, replicate, Some, None, Option, sym, refl, ap, ◌∙◌, subst, arith}
 use Rattle.std.specs.Str.{bytes_eq}
 use Rattle.std.proofs.lemmas.Slice.Eq.{bytes_eq-Decides}
 use Rattle.std.proofs.lemmas.List.{append_assoc, length-append, length-replicate, take_at, drop_at, drop-drop, length-drop}
 use Rattle.std.proofs.lemmas.Bool.Decides.{nat_tests}
 use Rattle.credential.specs.Rec.{Rec, is_within}
-use Rattle.credential.specs.Slot.{Entry, put, gone, Content, empty, holds, field, header, slot, withdrawal, free, written, slot_of, Fit, piece, fields_in, record_in, content_of, Exactly}
+use Rattle.credential.specs.Slot.{Entry, put, gone, Content, empty, holds, field, slot, withdrawal, free, written, slot_of, Fit, piece, fields_in, record_in, content_of, Exactly}
 use Rattle.credential.proofs.Records.{same_rec}
 
 -- the limits of a record, as facts

@@ -1,5 +1,5 @@
 -- A slot of 512 bytes: free, the writing of a record, or a withdrawal.
-use Rattle.std.specs.Prelude.{◌≡◌, ℕ, ◌-◌, true, cond, ◌&&◌, List, [], ◌∷◌, ◌++◌, length, take, drop, replicate, Some, None, Option, slice_index}
+use Rattle.std.specs.Prelude.{◌≡◌, ℕ, ◌-◌, true, cond, ◌&&◌, List, ◌∷◌, ◌++◌, length, take, drop, replicate, Some, None, Option, slice_index}
 use Rattle.std.specs.Str.{bytes_eq}
 use Rattle.credential.specs.Rec.{Rec, is_within}
 

@@ -83,9 +83,9 @@ module _ (kind : Kind) (capacity : ℕ) where
       → ((n : ℕ) → entries kind capacity (suc k) n ts ≡ Err j → entries kind capacity (suc k) n ss ≡ Err j) → (c : Option Content)
       → by_slot c (Err k) (unused (suc k) ts) (λ e. cond (is_allowed kind capacity count e) (before e (entries kind capacity (suc k) (counted count e) ts)) (Err k)) ≡ Err j
       → by_slot c (Err k) (unused (suc k) ss) (λ e. cond (is_allowed kind capacity count e) (before e (entries kind capacity (suc k) (counted count e) ss)) (Err k)) ≡ Err j
-  slot-alike k count j ts ss free more None h = h
-  slot-alike k count j ts ss free more (Some empty) h = free h
-  slot-alike k count j ts ss free more (Some (holds e)) h = cond_alike (is_allowed kind capacity count e) _ _ k j (λ g. ap (before e) (more (counted count e) (before_err e _ j g))) h
+  slot-alike k count j ts ss unused_on more None h = h
+  slot-alike k count j ts ss unused_on more (Some empty) h = unused_on h
+  slot-alike k count j ts ss unused_on more (Some (holds e)) h = cond_alike (is_allowed kind capacity count e) _ _ k j (λ g. ap (before e) (more (counted count e) (before_err e _ j g))) h
 
   entries-alike : (ts ss : List (List ℕ)) (k count j n : ℕ) → j ≡ k + n → take (suc n) ss ≡ take (suc n) ts → entries kind capacity k count ts ≡ Err j → entries kind capacity k count ss ≡ Err j
   unfolding entries

@@ -12,7 +12,7 @@ fn hex_edges(rt: HostRuntime) -> Result<(), Fail> {
     assert_eq!(rt; decode(heap, b"-")?.len(), 0);
     assert_eq!(rt;
         encode(heap, &decode(heap, b"0a9ff0")?)?.as_bytes(),
-        b"0a9ff0"
+        b"0a9ff0".as_slice()
     );
     assert!(rt; decode(heap, b"").is_err());
     assert!(rt; decode(heap, b"0").is_err());

@@ -16,7 +16,7 @@ fn hex_edges(rt: HostRuntime) -> Result<(), Fail> {
         assert!(rt; false);
         return Ok(());
     };
-    assert_eq!(rt; encode(heap, &bytes)?.as_bytes(), b"0a9ff0");
+    assert_eq!(rt; encode(heap, &bytes)?.as_bytes(), b"0a9ff0".as_slice());
     assert!(rt; decode(heap, b"")?.is_none());
     assert!(rt; decode(heap, b"0")?.is_none());
     assert!(rt; decode(heap, b"0A")?.is_none());

@@ -1,5 +1,5 @@
 -- What a held image means for the state.
-use Rattle.std.proofs.Common.{◌≡◌, ℕ, ◌*◌, ◌/◌, ◌%◌, ◌<◌, min, false, eqb, leb, List, length, IfOk, Ok, Err, Result, sym, refl, ap, ◌∙◌, ⊎_elim, arith}
+use Rattle.std.proofs.Common.{◌≡◌, ℕ, ◌*◌, ◌/◌, ◌%◌, ◌<◌, min, false, eqb, leb, List, length, IfOk, Ok, Err, Result, refl, ap, ◌∙◌, ⊎_elim, arith}
 use lib.ListN.{length-replicate}
 use Rattle.image.specs.declared.image.Image.{Image}
 use Rattle.image.specs.declared.kind.Kind.{Kind}

@@ -1,12 +1,12 @@
 -- What the image of a table holds, and when an image is still one.
-use Rattle.std.specs.Prelude.{◌≡◌, ℕ, ◌+◌, ◌-◌, ◌/◌, ◌<◌, ◌≤◌, true, List, [], ◌∷◌, ◌++◌, map, length, get_or, set, replicate, is_ok, Some, ◌≢◌, slice_index_or, slice_set, refl}
-use Rattle.std.proofs.Common.{sym, ap, subst, ◌∙◌, arith}
+use Rattle.std.specs.Prelude.{◌≡◌, ℕ, ◌+◌, ◌-◌, ◌/◌, ◌<◌, ◌≤◌, true, List, [], ◌∷◌, ◌++◌, map, length, get_or, set, is_ok, Some, ◌≢◌, slice_index_or, slice_set}
+use Rattle.std.proofs.Common.{sym, ap, ◌∙◌, arith}
 use Rattle.std.specs.List.{remove}
 use Rattle.std.proofs.lemmas.List.Edits.{length-remove}
 use Rattle.std.proofs.ByRecursion.{All-get_or}
 use Rattle.std.proofs.lemmas.List.{length-map, length_push, length-set, map_push, get_or-map}
 use Rattle.credential.specs.Rec.{Rec, is_within}
-use Rattle.credential.specs.Slot.{Entry, put, holds, slot, written, free, content_of}
+use Rattle.credential.specs.Slot.{put, holds, slot, written, content_of}
 use Rattle.credential.specs.Model.{model}
 use Rattle.credential.specs.declared.record.Record.{Record}
 use Rattle.credential.proofs.Records.{model_within}
@@ -15,7 +15,7 @@ use Rattle.image.specs.declared.image.Image.{Image}
 use Rattle.image.specs.Cut.{bytes_of, cells}
 use Rattle.image.specs.Kinds.{capacity_of}
 use Rattle.image.specs.Laws.{Holds}
-use Rattle.image.specs.Opening.{opened, or_none, entries_of}
+use Rattle.image.specs.Opening.{or_none, entries_of}
 use Rattle.image.specs.Replay.{replay}
 use Rattle.image.proofs.Imaged.{layout, length-layout, layout_more}
 use Rattle.image.proofs.Leading.{leads-replay, leads_puts, leads_within}

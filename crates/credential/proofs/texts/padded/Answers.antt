@@ -1,4 +1,3 @@
-use Rattle.std.proofs.Common.{arith}
 use Rattle.credential.proofs.Padding.{padded_more, padded_all}
 use Rattle.credential.proofs.texts.padded.Goals as goal
 

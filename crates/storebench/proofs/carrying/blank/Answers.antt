@@ -1,4 +1,4 @@
-use Rattle.std.proofs.Common.{◌≡◌, ◌*◌, replicate, IfOk, vec_items, string_bytes, ap, ◌∙◌, subst, inr}
+use Rattle.std.proofs.Common.{◌≡◌, IfOk, vec_items, string_bytes, ap, ◌∙◌, subst, inr}
 use Rattle.storebench.specs.Printed.{open_text}
 use Rattle.storebench.specs.State.{blank_image, state_of, after_open}
 use Rattle.storebench.proofs.Opens.{blank_open, always}

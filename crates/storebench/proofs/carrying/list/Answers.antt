@@ -1,5 +1,4 @@
 use Rattle.std.proofs.Common.{Ok, sym, ap, ◌∙◌, inl}
-use Rattle.image.specs.declared.kind.Kind.TheVariants.{Table, Log}
 use Rattle.storebench.specs.Printed.{listed}
 use Rattle.storebench.specs.State.{state_of}
 use Rattle.storebench.proofs.carrying.list.Goals as goal

@@ -1,4 +1,4 @@
-use Rattle.std.proofs.Common.{length, ap, ◌∙◌, arith}
+use Rattle.std.proofs.Common.{length, ap, arith}
 use Rattle.credential.proofs.Laid.{filled_none, filled_more, laid}
 use Rattle.credential.proofs.record.Record.to_slot.Goals as goal
 
