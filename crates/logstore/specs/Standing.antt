@@ -10,12 +10,13 @@ use Rattle.credential.proofs.Slots.{content-written}
 use Rattle.image.specs.declared.kind.Kind.TheVariants.{Log}
 use Rattle.image.specs.declared.image.Image.{Image}
 use Rattle.image.specs.Cut.{cells, bytes_of}
+use Rattle.image.specs.Kinds.{capacity_of}
 use Rattle.image.specs.Laws.{imaged, Leads, Holds}
 use Rattle.image.specs.Opening.{opened, or_none}
 use Rattle.image.specs.Replay.{after, replay}
 use Rattle.image.proofs.Imaged.{layout, length-layout, layout_more, slots_of_lem}
 use Rattle.image.proofs.Leading.{leads_join, leads_puts, leads_within, leads_bound, replay_join}
-use Rattle.image.proofs.Stores.{opened_entries, opened-cells, cells-opened, bytes_slots}
+use Rattle.image.proofs.Stores.{opened_entries, opened-cells, cells-opened, bytes_slots, capacity_slots}
 use Rattle.logstore.specs.Cells.{Ahead, chosen, gathered, wiped}
 use Rattle.logstore.specs.Log.{is_log, entries_in, records_in, spared, logged}
 use Rattle.logstore.specs.Places.{places_from}
@@ -49,6 +50,10 @@ stands_bytes im es s = (cells-opened Log im es (replay [] es) s.rules s.laid).1 
 -- a log lists fewer records than it has slots
 pub stands_few : (im : Image) (es : List Entry) → Stands im es → length (replay [] es) ≤ length (cells im) - 1
 stands_few im es s = leads_bound Log (length (cells im) - 1) s.rules.leads (omega arith)
+
+-- a log never lists more records than its capacity
+pub bounded_law : (s : Image) → is_log (bytes_of s) ≡ true → length (records_in (bytes_of s)) ≤ capacity_of Log (bytes_of s)
+bounded_law s ok = omega (arith, stands_few s _ (stands-opened s ok), capacity_slots Log s)
 
 -- slots gathered and wiped behind
 wiped-gathered :

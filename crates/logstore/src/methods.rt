@@ -1,7 +1,7 @@
 //! How a log is opened, read and changed.
 
 ghost use Rattle.std.specs.Prelude.{◌≡◌, ◌-◌, ◌/◌, ◌<◌, true, length, slice_index_or};
-ghost use Rattle.std.proofs.Common.{ap, arith};
+ghost use Rattle.std.proofs.Common.{ap};
 ghost use Rattle.credential.specs.Model.{model};
 ghost use Rattle.credential.specs.Rec.{Rec};
 ghost use Rattle.image.specs.Cut.{cells, bytes_of};
@@ -10,8 +10,7 @@ ghost use Rattle.image.specs.Laws.{imaged, Exactly, First};
 ghost use Rattle.image.specs.Opening.{listing};
 ghost use Rattle.image.specs.Stores.{told, held};
 ghost use Rattle.logstore.specs.Log.{kind, is_log, entries_in, records_in, spared, extended, reduced};
-ghost use Rattle.image.proofs.Stores.{capacity_slots};
-ghost use Rattle.logstore.specs.Standing.{stands-opened, stands_few};
+ghost use Rattle.logstore.specs.Standing.{bounded_law};
 
 use crate::compaction::compact;
 use crate::listing::places;
@@ -87,7 +86,7 @@ impl Store for Log {
 
     ghost reduced = { reduced };
 
-    ghost bounded = { λ s. omega (arith, stands_few s.image _ (stands-opened s.image s.opens), capacity_slots kind s.image) };
+    ghost bounded = { λ s. bounded_law s.image s.opens };
 
     ghost determined = { λ s t e. (ap records_in e, ap (capacity_of kind) e) };
 

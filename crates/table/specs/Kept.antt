@@ -144,6 +144,10 @@ table_bounds t =
     let k = known t.image t.opens in
     record { few = omega (arith, k.few, t.counted); most = k.most; room = capacity_slots kind t.image }
 
+-- a table never lists more records than its capacity
+pub bounded_law : (t : Table) → length (records_in (bytes_of t.image)) ≤ capacity_of kind (bytes_of t.image)
+bounded_law t = let b = table_bounds t in omega (arith, b.few, b.room, t.counted)
+
 -- what `add` leaves
 pub after_add_lem :
     (t : Table) (next : Image) (new : Record) (s : List ℕ) (n : ℕ) → n ≡ length (cells t.image) → (t.count ≢ n) → s ≡ slot (model new) → cells next ≡ slice_set (cells t.image) t.count s

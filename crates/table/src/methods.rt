@@ -1,14 +1,14 @@
 //! The calls of a table.
 
 ghost use Rattle.std.specs.Prelude.{◌≡◌, ◌/◌, true, length};
-ghost use Rattle.std.proofs.Common.{ap, arith};
+ghost use Rattle.std.proofs.Common.{ap};
 ghost use Rattle.image.specs.Cut.{bytes_of};
 ghost use Rattle.image.specs.Kinds.{capacity_of};
 ghost use Rattle.image.specs.Laws.{Exactly, First};
 ghost use Rattle.image.specs.Opening.{listing};
 ghost use Rattle.image.specs.Stores.{told, held};
 ghost use Rattle.table.specs.Tables.{kind, is_table, records_in, tabled, extended, reduced};
-ghost use Rattle.table.specs.Kept.{table_bounds};
+ghost use Rattle.table.specs.Kept.{bounded_law};
 
 use crate::closing::close;
 use crate::table::Table;
@@ -57,7 +57,7 @@ impl Store for Table {
 
     ghost reduced = { reduced };
 
-    ghost bounded = { λ t. let b = table_bounds t in omega (arith, b.few, b.room, t.counted) };
+    ghost bounded = { bounded_law };
 
     ghost determined = { λ s t e. (ap records_in e, ap (capacity_of kind) e) };
 
