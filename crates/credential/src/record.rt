@@ -32,9 +32,9 @@ pub struct Record {
     pub(crate) x: [u8; ID],
     pub(crate) y: [u8; ID],
     pub(crate) cred_protect: CredProtect,
-    ghost idSize: { length credential_id ≡ 32 },
-    ghost xSize: { length x ≡ 32 },
-    ghost ySize: { length y ≡ 32 },
+    ghost id_size: { length credential_id ≡ 32 },
+    ghost x_size: { length x ≡ 32 },
+    ghost y_size: { length y ≡ 32 },
 }
 
 /// The fields of a record, of any length.

@@ -2,7 +2,7 @@
 
 ghost use Rattle.std.specs.Prelude.{◌≡◌};
 ghost use Rattle.keybench_stores.specs.Judged.{judged, code, place_of};
-ghost use Rattle.keybench_stores.specs.Shown.{reach as reachOf};
+ghost use Rattle.keybench_stores.specs.Shown.{reach as reach_of};
 
 const MAX_MESSAGE: usize = 1024;
 
@@ -62,7 +62,7 @@ impl Verdict {
 
     /// Up to where a message of this verdict is outlined: to its end, or to the fault.
     pub fn reach(&self, size: usize) -> usize
-        ensures answer { result ≡ reachOf self.now size }
+        ensures answer { result ≡ reach_of self.now size }
     {
         match self {
             Verdict::Accepted => size,

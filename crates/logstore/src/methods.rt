@@ -10,7 +10,7 @@ ghost use Rattle.image.specs.Laws.{imaged, Exactly, First};
 ghost use Rattle.image.specs.Opening.{listing};
 ghost use Rattle.image.specs.Stores.{told, held};
 ghost use Rattle.logstore.specs.Log.{kind, is_log, entries_in, records_in, spared, extended, reduced};
-ghost use Rattle.logstore.specs.Standing.{bounded_law};
+ghost use Rattle.logstore.specs.Bound.{bounded_law};
 
 use crate::compaction::compact;
 use crate::listing::places;

@@ -3,7 +3,7 @@
 ghost use Rattle.std.specs.Prelude.{◌≡◌, vec_items};
 ghost use Rattle.lines.specs.Line.{words, words_of};
 ghost use Rattle.steps.specs.Answered.{Answers};
-ghost use Rattle.steps.specs.Asked.{asked, meant, named, bytes_of, hmac_of, tag_of, blank_of, open_of, add_of, remove_of, alone as aloneOf};
+ghost use Rattle.steps.specs.Asked.{asked, meant, named, bytes_of, hmac_of, tag_of, blank_of, open_of, add_of, remove_of, alone as alone_of};
 
 use crate::adding::add;
 use crate::step::Step;
@@ -146,7 +146,7 @@ fn remove(rest: Option<&[u8]>) -> Result<Step, Wrong>
 
 /// A step that takes no value.
 fn alone(step: Step, rest: Option<&[u8]>) -> Result<Step, Wrong>
-    ensures answer { Answers meant result (aloneOf (meant step) (words_of rest.entry)) }
+    ensures answer { Answers meant result (alone_of (meant step) (words_of rest.entry)) }
 {
     match rest {
         Some(_) => Err(Wrong::Words),

@@ -1,1 +1,3 @@
 mod Gaps
+pub mod Kept
+mod Fronts

@@ -8,7 +8,7 @@ ghost use Rattle.image.specs.Laws.{Exactly, First};
 ghost use Rattle.image.specs.Opening.{listing};
 ghost use Rattle.image.specs.Stores.{told, held};
 ghost use Rattle.table.specs.Tables.{kind, is_table, records_in, tabled, extended, reduced};
-ghost use Rattle.table.specs.Kept.{bounded_law};
+ghost use Rattle.table.specs.Bound.{bounded_law};
 
 use crate::closing::close;
 use crate::table::Table;

@@ -3,7 +3,7 @@ use Rattle.std.proofs.lemmas.List.{length-take-le}
 use Rattle.image.specs.Cut.{cells}
 use Rattle.logstore.specs.Cells.{gathered, wiped}
 use Rattle.logstore.specs.Places.{held}
-use Rattle.logstore.specs.Gathering.{ahead_few}
+use Rattle.logstore.proofs.Gathering.{ahead_few}
 use Rattle.logstore.proofs.compaction.compact.Goals as goal
 
 pub wipe-requires : goal.wipe-requires

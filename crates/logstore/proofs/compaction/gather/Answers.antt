@@ -2,7 +2,7 @@ use Rattle.std.proofs.Common.{◌≡◌, ◌<◌, length, get_or, sym, ap, ◌�
 use Rattle.std.proofs.lemmas.List.{get_or-take, length-take-le}
 use Rattle.image.specs.Cut.{cells}
 use Rattle.logstore.specs.Places.{held}
-use Rattle.logstore.specs.Gathering.{gathered_more, gathered_all, length-gathered}
+use Rattle.logstore.proofs.Gathering.{gathered_more, gathered_all, length-gathered}
 use Rattle.logstore.proofs.compaction.gather.Goals as goal
 
 pub loop-j-preserved : goal.loop-j-preserved

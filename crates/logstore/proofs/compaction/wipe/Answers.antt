@@ -1,6 +1,6 @@
 use Rattle.std.proofs.Common.{◌∙◌, arith}
 use Rattle.image.specs.Cut.{cells}
-use Rattle.logstore.specs.Gathering.{wiped_none, wiped_more, wiped_all}
+use Rattle.logstore.proofs.Gathering.{wiped_none, wiped_more, wiped_all}
 use Rattle.logstore.proofs.compaction.wipe.Goals as goal
 
 pub loop-k-init : goal.loop-k-init

@@ -4,7 +4,7 @@ use Rattle.credential.specs.Slot.{content_of}
 use Rattle.image.specs.Cut.{cells}
 use Rattle.image.proofs.Cells.{length-cells}
 use Rattle.logstore.specs.Places.{held}
-use Rattle.logstore.specs.Numbers.{places_more, places_all, length_seen}
+use Rattle.logstore.proofs.Numbers.{places_more, places_all, length_seen}
 use Rattle.logstore.proofs.listing.places.Goals as goal
 
 pub follow-requires : goal.follow-requires

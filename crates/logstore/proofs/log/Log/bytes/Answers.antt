@@ -1,7 +1,8 @@
 use Rattle.std.proofs.Common.{◌/◌, length, sym, ap, ◌∙◌}
 use Rattle.image.specs.Laws.{imaged}
 use Rattle.logstore.specs.Log.{is_log, entries_in}
-use Rattle.logstore.specs.Standing.{stands-opened, stands_bytes}
+use Rattle.logstore.specs.Bound.{stands-opened}
+use Rattle.logstore.proofs.Standing.{stands_bytes}
 use Rattle.logstore.proofs.log.Log.bytes.Goals as goal
 
 pub returns : goal.returns

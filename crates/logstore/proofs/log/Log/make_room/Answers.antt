@@ -5,8 +5,9 @@ use Rattle.image.specs.Cut.{cells, bytes_of}
 use Rattle.image.specs.Replay.{replay}
 use Rattle.logstore.specs.Cells.{Ahead}
 use Rattle.logstore.specs.Log.{entries_in, records_in}
-use Rattle.logstore.specs.Numbers.{ahead_listed}
-use Rattle.logstore.specs.Standing.{stands-opened, stands_few, compaction, spared-free, spared_full, replay_puts}
+use Rattle.logstore.proofs.Numbers.{ahead_listed}
+use Rattle.logstore.specs.Bound.{stands-opened, stands_few}
+use Rattle.logstore.proofs.Standing.{compaction, spared-free, spared_full, replay_puts}
 use Rattle.logstore.proofs.log.Log.make_room.Goals as goal
 
 pub returns-then-self-len : goal.returns-then-self-len

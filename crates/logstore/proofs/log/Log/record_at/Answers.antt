@@ -2,7 +2,7 @@ use Rattle.std.proofs.Common.{ap, arith}
 use Rattle.credential.specs.Rec.{blank}
 use Rattle.credential.specs.Slot.{record_of}
 use Rattle.credential.proofs.Told.{none_read, same_read}
-use Rattle.logstore.specs.Standing.{record_in_lem, length_listed}
+use Rattle.logstore.proofs.Standing.{record_in_lem, length_listed}
 use Rattle.logstore.proofs.log.Log.record_at.Goals as goal
 
 pub at-requires : goal.at-requires

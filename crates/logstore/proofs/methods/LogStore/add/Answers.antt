@@ -10,7 +10,7 @@ use Rattle.image.proofs.Cells.{length-cells}
 use Rattle.image.proofs.Leading.{impossible}
 use Rattle.image.proofs.Stores.{capacity_slots, same_capacity}
 use Rattle.logstore.specs.Log.{kind, records_in}
-use Rattle.logstore.specs.Standing.{Logged, one_more}
+use Rattle.logstore.proofs.Standing.{Logged, one_more}
 use Rattle.logstore.proofs.methods.LogStore.add.Goals as goal
 use Rattle.logstore.proofs.methods.LogStore.add.Goals.{After-write}
 

@@ -8,7 +8,8 @@ use Rattle.image.proofs.Cells.{length-cells}
 use Rattle.image.proofs.Leading.{impossible}
 use Rattle.image.proofs.Stores.{same_capacity}
 use Rattle.logstore.specs.Log.{kind, records_in}
-use Rattle.logstore.specs.Standing.{Logged, one_more, stands-opened, stands_few}
+use Rattle.logstore.specs.Bound.{stands-opened, stands_few}
+use Rattle.logstore.proofs.Standing.{Logged, one_more}
 use Rattle.logstore.proofs.methods.LogStore.remove.Goals as goal
 use Rattle.logstore.proofs.methods.LogStore.remove.Goals.{After-write}
 

@@ -1,7 +1,7 @@
 use Rattle.std.proofs.Common.{◌-◌, take, sym, ap, ◌∙◌, arith}
 use Rattle.std.proofs.lemmas.List.{length-take-le}
 use Rattle.logstore.specs.Places.{held}
-use Rattle.logstore.specs.Numbers.{removed_past, removed_front}
+use Rattle.logstore.proofs.Numbers.{removed_past, removed_front}
 use Rattle.logstore.proofs.places.Places.remove.Goals as goal
 
 pub returns-then-place-self : goal.returns-then-place-self

@@ -1,6 +1,7 @@
 use Rattle.std.proofs.Common.{◌≡◌, ℕ, refl, arith}
 use Rattle.std.proofs.lemmas.Bool.Decides.{nat_tests}
-use Rattle.table.specs.Kept.{table_bounds, after_add_lem, counted_add}
+use Rattle.table.specs.Bound.{table_bounds}
+use Rattle.table.proofs.Kept.{after_add_lem, counted_add}
 use Rattle.table.proofs.methods.TableStore.add.Goals as goal
 
 pub overflow_add-self : goal.overflow_add-self

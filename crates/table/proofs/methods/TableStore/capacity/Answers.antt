@@ -1,5 +1,5 @@
 use Rattle.std.proofs.Common.{rules}
-use Rattle.table.specs.Kept.{table_bounds}
+use Rattle.table.specs.Bound.{table_bounds}
 use Rattle.table.proofs.methods.TableStore.capacity.Goals as goal
 
 pub returns : goal.returns

@@ -6,7 +6,7 @@ use Rattle.credential.specs.Slot.{content_of, record_of}
 use Rattle.credential.proofs.Told.{none_read, same_read}
 use Rattle.image.specs.Cut.{bytes_of}
 use Rattle.table.specs.Tables.{records_in}
-use Rattle.table.specs.Kept.{reads}
+use Rattle.table.proofs.Kept.{reads}
 use Rattle.table.proofs.methods.TableStore.read.Goals as goal
 
 pub returns-then-place-self : goal.returns-then-place-self

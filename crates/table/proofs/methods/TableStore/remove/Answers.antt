@@ -1,6 +1,7 @@
 use Rattle.std.proofs.Common.{◌≡◌, ℕ, arith}
 use Rattle.std.proofs.lemmas.Bool.Decides.{nat_tests}
-use Rattle.table.specs.Kept.{table_bounds, after_remove_lem, counted-remove}
+use Rattle.table.specs.Bound.{table_bounds}
+use Rattle.table.proofs.Kept.{after_remove_lem, counted-remove}
 use Rattle.table.proofs.methods.TableStore.remove.Goals as goal
 
 pub close-requires : goal.close-requires

@@ -1,5 +1,5 @@
 use Rattle.std.proofs.Common.{rules}
-use Rattle.table.specs.Kept.{known_bytes}
+use Rattle.table.proofs.Kept.{known_bytes}
 use Rattle.table.proofs.table.Table.bytes.Goals as goal
 
 pub returns : goal.returns

@@ -1,5 +1,5 @@
 -- What the image of a table holds, and when an image is still one.
-use Rattle.std.specs.Prelude.{◌≡◌, ℕ, ◌+◌, ◌-◌, ◌/◌, ◌<◌, ◌≤◌, true, List, [], ◌∷◌, ◌++◌, map, length, get_or, set, is_ok, Some, ◌≢◌, slice_index_or, slice_set}
+use Rattle.std.specs.Prelude.{◌≡◌, ℕ, ◌+◌, ◌-◌, ◌/◌, ◌<◌, true, List, [], ◌∷◌, ◌++◌, map, length, get_or, set, is_ok, Some, ◌≢◌, slice_index_or, slice_set}
 use Rattle.std.proofs.Common.{sym, ap, ◌∙◌, arith}
 use Rattle.std.specs.List.{remove}
 use Rattle.std.proofs.lemmas.List.Edits.{length-remove}
@@ -15,23 +15,16 @@ use Rattle.image.specs.declared.image.Image.{Image}
 use Rattle.image.specs.Cut.{bytes_of, cells}
 use Rattle.image.specs.Kinds.{capacity_of}
 use Rattle.image.specs.Laws.{Holds}
-use Rattle.image.specs.Opening.{or_none, entries_of}
+use Rattle.image.specs.Opening.{or_none}
 use Rattle.image.specs.Replay.{replay}
 use Rattle.image.proofs.Imaged.{layout, length-layout, layout_more}
-use Rattle.image.proofs.Leading.{leads-replay, leads_puts, leads_within}
-use Rattle.image.proofs.Led.{Within, within_push, within_removed, leads_table}
-use Rattle.image.proofs.Stores.{opened_entries, opened-cells, cells-opened, bytes_slots, capacity_slots, same_capacity}
+use Rattle.image.proofs.Leading.{leads-replay, leads_puts}
+use Rattle.image.proofs.Led.{within_push, within_removed}
+use Rattle.image.proofs.Stores.{cells-opened, bytes_slots, same_capacity}
 use Rattle.table.specs.declared.table.Table.{Table}
 use Rattle.table.specs.Tables.{kind, is_table, records_in, tabled, closed}
-use Rattle.table.specs.Fronts.{map_removed, layout_less, layout_at}
-
--- what the image of a table holds
-pub record Known (im : Image) (rs : List Rec) : Type 0 where
-  pub enough : 1 ≤ length (cells im)
-  pub most : length (cells im) ≤ 64
-  pub few : length rs ≤ length (cells im)
-  pub within : Within rs
-  pub slots : cells im ≡ layout (length (cells im)) (map put rs)
+use Rattle.table.proofs.Fronts.{map_removed, layout_less, layout_at}
+use Rattle.table.specs.Bound.{Known, known, table_bounds}
 
 -- an image whose slots are those of records is that of a table, with those records
 pub stays : (im : Image) (rs : List Rec) → Known im rs → (is_table (bytes_of im) ≡ true) × (records_in (bytes_of im) ≡ rs) × (bytes_of im ≡ tabled (length (cells im)) rs)
@@ -41,22 +34,6 @@ stays im rs k =
     let h : Holds kind n (map put rs) rs = record { enough = k.enough; few = k.most; fit = omega (arith, length-map rs put, k.few); leads = leads } in
     let o = cells-opened kind im (map put rs) rs h k.slots in
     (ap is_ok o.0, ap (λ r. replay [] (or_none r)) o.0 ∙ sym (leads-replay kind n leads), o.1)
-
--- what the image of a table holds
-pub known : (im : Image) → is_table (bytes_of im) ≡ true → Known im (records_in (bytes_of im))
-known im ok =
-    let n = length (cells im) in
-    let es = entries_of kind (bytes_of im) in
-    let k = opened-cells kind im es (opened_entries kind (bytes_of im) ok) in
-    let t = leads_table k.0.leads in
-    let same : es ≡ map put (replay [] es) = t.1 ∙ ap (map put) (sym t.2) in
-    record {
-      enough = k.0.enough;
-      most = k.0.few;
-      few = omega (arith, k.0.fit, ap length same, length-map (replay [] es) put);
-      within = leads_within kind n k.0.leads tt;
-      slots = k.1 ∙ ap (layout n) same;
-    }
 
 -- the same image, known for the same records
 pub known_bytes : (im : Image) → is_table (bytes_of im) ≡ true → bytes_of im ≡ tabled (length (bytes_of im) / 512) (records_in (bytes_of im))
@@ -132,21 +109,6 @@ reads im ok place d lt =
     let count = length-map rs put in
     ap content_of (ap (λ l. get_or l place []) k.slots ∙ layout_at (length (cells im)) (map put rs) place (put d) (omega arith) ∙ ap written (get_or-map put rs place d (put d) lt))
     ∙ content-written (put r) (All-get_or (λ r. is_within r ≡ true) rs place d lt k.within)
-
--- a table is not longer than its slots, they are few, and their number is its capacity
-pub record Bounds (t : Table) : Type 0 where
-  pub few : t.count ≤ length (cells t.image)
-  pub most : length (cells t.image) ≤ 64
-  pub room : capacity_of kind (bytes_of t.image) ≡ length (cells t.image)
-
-pub table_bounds : (t : Table) → Bounds t
-table_bounds t =
-    let k = known t.image t.opens in
-    record { few = omega (arith, k.few, t.counted); most = k.most; room = capacity_slots kind t.image }
-
--- a table never lists more records than its capacity
-pub bounded_law : (t : Table) → length (records_in (bytes_of t.image)) ≤ capacity_of kind (bytes_of t.image)
-bounded_law t = let b = table_bounds t in omega (arith, b.few, b.room, t.counted)
 
 -- what `add` leaves
 pub after_add_lem :

@@ -1,5 +1,5 @@
 -- What a log holds, and what compaction and one more entry make of it.
-use Rattle.std.specs.Prelude.{◌≡◌, ℕ, ◌+◌, ◌-◌, ◌/◌, ◌<◌, ◌≤◌, true, List, [], ◌∷◌, ◌++◌, map, length, get_or, drop, set, replicate, is_ok, Some, Ok, slice_index, slice_index_or, slice_set}
+use Rattle.std.specs.Prelude.{◌≡◌, ℕ, ◌+◌, ◌-◌, ◌/◌, ◌<◌, ◌≤◌, true, List, [], ◌∷◌, ◌++◌, map, length, get_or, drop, set, replicate, is_ok, Some, slice_index, slice_index_or, slice_set}
 use Rattle.std.proofs.Common.{sym, ap, subst, ◌∙◌, ⊎_elim, arith}
 use Rattle.std.proofs.lemmas.List.{append-nil, append_assoc, take_at, length-map, length-set, length_push, get_or-map}
 use Rattle.std.proofs.ByRecursion.{All-get_or}
@@ -10,31 +10,19 @@ use Rattle.credential.proofs.Slots.{content-written}
 use Rattle.image.specs.declared.kind.Kind.TheVariants.{Log}
 use Rattle.image.specs.declared.image.Image.{Image}
 use Rattle.image.specs.Cut.{cells, bytes_of}
-use Rattle.image.specs.Kinds.{capacity_of}
 use Rattle.image.specs.Laws.{imaged, Leads, Holds}
-use Rattle.image.specs.Opening.{opened, or_none}
+use Rattle.image.specs.Opening.{or_none}
 use Rattle.image.specs.Replay.{after, replay}
 use Rattle.image.proofs.Imaged.{layout, length-layout, layout_more, slots_of_lem}
-use Rattle.image.proofs.Leading.{leads_join, leads_puts, leads_within, leads_bound, replay_join}
-use Rattle.image.proofs.Stores.{opened_entries, opened-cells, cells-opened, bytes_slots, capacity_slots}
+use Rattle.image.proofs.Leading.{leads_join, leads_puts, leads_within, replay_join}
+use Rattle.image.proofs.Stores.{opened-cells, cells-opened, bytes_slots}
 use Rattle.logstore.specs.Cells.{Ahead, chosen, gathered, wiped}
 use Rattle.logstore.specs.Log.{is_log, entries_in, records_in, spared, logged}
 use Rattle.logstore.specs.Places.{places_from}
-use Rattle.logstore.specs.Gathering.{length-chosen, length-gathered}
-use Rattle.logstore.specs.Listed.{chosen_listed}
-use Rattle.logstore.specs.Numbers.{ahead_listed}
-
--- the image is that of a log with these entries
-pub record Stands (im : Image) (es : List Entry) : Type 0 where
-  pub accepted : opened Log (bytes_of im) ≡ Ok es
-  pub rules : Holds Log (length (cells im)) es (replay [] es)
-  pub laid : cells im ≡ layout (length (cells im)) es
-
-pub stands-opened : (im : Image) → is_log (bytes_of im) ≡ true → Stands im (entries_in (bytes_of im))
-stands-opened im ok =
-    let is = opened_entries Log (bytes_of im) ok in
-    let all = opened-cells Log im (entries_in (bytes_of im)) is in
-    record { accepted = is; rules = all.0; laid = all.1 }
+use Rattle.logstore.proofs.Gathering.{length-chosen, length-gathered}
+use Rattle.logstore.proofs.Listed.{chosen_listed}
+use Rattle.logstore.proofs.Numbers.{ahead_listed}
+use Rattle.logstore.specs.Bound.{Stands, stands-opened, stands_few}
 
 -- entries that lead to some records, in the slots of an image
 stands_laid :
@@ -46,14 +34,6 @@ stands_laid im es rs n keeps same are =
 
 pub stands_bytes : (im : Image) (es : List Entry) → Stands im es → bytes_of im ≡ imaged (length (bytes_of im) / 512) es
 stands_bytes im es s = (cells-opened Log im es (replay [] es) s.rules s.laid).1 ∙ ap (λ n. imaged n es) (sym (bytes_slots im))
-
--- a log lists fewer records than it has slots
-pub stands_few : (im : Image) (es : List Entry) → Stands im es → length (replay [] es) ≤ length (cells im) - 1
-stands_few im es s = leads_bound Log (length (cells im) - 1) s.rules.leads (omega arith)
-
--- a log never lists more records than its capacity
-pub bounded_law : (s : Image) → is_log (bytes_of s) ≡ true → length (records_in (bytes_of s)) ≤ capacity_of Log (bytes_of s)
-bounded_law s ok = omega (arith, stands_few s _ (stands-opened s ok), capacity_slots Log s)
 
 -- slots gathered and wiped behind
 wiped-gathered :

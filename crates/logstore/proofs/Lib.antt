@@ -1,0 +1,4 @@
+pub mod Standing
+pub mod Gathering
+pub mod Listed
+pub mod Numbers
