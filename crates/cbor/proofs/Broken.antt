@@ -5,28 +5,28 @@ use Rattle.std.proofs.lemmas.List.{take_at, drop_at}
 use Rattle.cbor.specs.Fault.{NoItem, NoKey, last_key, Within, unread, in_array, at_key, in_value, Broken, Surplus, Placed}
 use Rattle.cbor.specs.Reader.{Said, number, negative, bytes, text, array, map, simple, token, container, precedes, key, items, entries, inside, item, deepest, ended, whole, checked}
 use Rattle.cbor.specs.Grammar.{Leaf, Value, head, encode_leaf, encode_entry, encode, FineLeaf, IsKey, Each, Entries, Canonical, spelled, FineSaid}
-use Rattle.cbor.proofs.Keys.{never}
 use Rattle.cbor.proofs.Shortest.{Bytes, bytes_drop}
 use Rattle.cbor.proofs.Spelled.{token_complete, token_sound}
-use Rattle.cbor.proofs.Exact.{Reader, Reads, bytes_behind, keyed, key_complete, item_reads}
+use Rattle.cbor.proofs.Rests.{Reader}
+use Rattle.cbor.proofs.Exact.{Reads, bytes_behind, keyed, key_complete, item_reads}
 use Rattle.cbor.proofs.Faults.{then_err, or_err, ended_err, whole_faults}
 use Rattle.cbor.proofs.Laws.{placed_err}
 
 no_item : (us : List ℕ) → token us ≡ None → NoItem us
 no_item us e s fine rest is =
     let p = sym (token_complete s fine rest) ∙ ap token (sym is) ∙ e in
-    absurd (let z : ◌≡◌ {A = ℕ} 0 1 = cc in omega arith)
+    cc
 
 no_key : (before us : List ℕ) → key before us ≡ None → NoKey before us
 no_key before us e k is_key fine after rest is =
     let p = sym (key_complete before k is_key fine after rest) ∙ ap (key before) (sym is) ∙ e in
-    absurd (let z : ◌≡◌ {A = ℕ} 0 1 = cc in omega arith)
+    cc
 
 module _ (read : Reader) (V : Type 0) (enc : V → List ℕ) (Fine : V → Type 0) (R : Reads read V enc Fine) where
   -- some values, then a fault
   items-broken : (n : ℕ) (us ws : List ℕ) → Bytes us → items read n us ≡ Err ws → (vs : List V) × (rest : List ℕ) × (us ≡ flat_map enc vs ++ rest) × Each Fine vs × (length vs < n) × Bytes rest × (read rest ≡ Err ws)
   unfolding items
-  items-broken zero us ws each e = never e
+  items-broken zero us ws each e = cc
   items-broken (suc n) us ws each e =
       ⊎_elim
       (λ p. ([], us, refl, tt, omega arith, each, p))
@@ -64,7 +64,7 @@ module _ (read : Reader) (V : Type 0) (enc : V → List ℕ) (Fine : V → Type 
 
   entries-broken : (n : ℕ) (before us ws : List ℕ) → Bytes us → entries read before n us ≡ Err ws → Wrong before n us ws
   unfolding entries
-  entries-broken zero before us ws each e = never e
+  entries-broken zero before us ws each e = cc
   entries-broken (suc n) before us ws each e =
       ⊎_elim
       (λ p. record { es = []; fine = tt; less = omega arith; how = inl (p.1, subst (NoKey before) p.1 (no_key before us p.0)) })
@@ -87,10 +87,10 @@ module _ (read : Reader) (V : Type 0) (enc : V → List ℕ) (Fine : V → Type 
 module _ (levels : ℕ) (under : (us ws : List ℕ) → Bytes us → item levels us ≡ Err ws → Broken levels us ws) where
   inside-broken : (s : Said) (us rest ws : List ℕ) → FineSaid s → us ≡ spelled s ++ rest → Bytes rest → inside (item levels) s rest ≡ Err ws → Within levels (Broken levels) us ws
   unfolding inside
-  inside-broken (number n) us rest ws fine is each e = never e
-  inside-broken (negative n) us rest ws fine is each e = never e
-  inside-broken (bytes bs) us rest ws fine is each e = never e
-  inside-broken (text bs) us rest ws fine is each e = never e
+  inside-broken (number n) us rest ws fine is each e = cc
+  inside-broken (negative n) us rest ws fine is each e = cc
+  inside-broken (bytes bs) us rest ws fine is each e = cc
+  inside-broken (text bs) us rest ws fine is each e = cc
   inside-broken (array n) us rest ws fine is each e =
       let g = items-broken (item levels) (Value levels) (encode levels) (Canonical levels) (item_reads levels) n rest ws each e in
       in_array n g.0 g.1 fine (is ∙ ap (λ r. head 4 n ++ r) g.2) g.3 g.4 (under g.1 ws g.5 g.6)
@@ -100,11 +100,11 @@ module _ (levels : ℕ) (under : (us ws : List ℕ) → Bytes us → item levels
       (λ h. at_key n g.es fine (is ∙ ap (λ r. head 5 n ++ r) h.0) g.fine g.less h.1)
       (λ h. in_value n g.es h.0 h.1 fine (is ∙ ap (λ r. head 5 n ++ r) h.2) g.fine g.less h.3 h.4 h.5 (under h.1 ws h.6 h.7))
       g.how
-  inside-broken (simple n) us rest ws fine is each e = never e
+  inside-broken (simple n) us rest ws fine is each e = cc
 
 cond_err : (b : Bool) (us xs ws : List ℕ) → cond b (Err us) (Ok xs) ≡ Err ws → (b ≡ true) × (us ≡ ws)
 cond_err true us xs ws e = (refl, cc)
-cond_err false us xs ws e = never e
+cond_err false us xs ws e = cc
 
 item_broken : (levels : ℕ) (us ws : List ℕ) → Bytes us → item levels us ≡ Err ws → Broken levels us ws
 unfolding item
@@ -126,7 +126,7 @@ item_broken (suc levels) us ws each e =
 
 some_left : (us ws : List ℕ) → ended us ≡ Err ws → 0 < length ws
 unfolding ended
-some_left [] ws e = never e
+some_left [] ws e = cc
 some_left (b ∷ bs) ws e = let s : b ∷ bs ≡ ws = cc in let l = ap length s in omega arith
 
 -- the bytes that are left begin at their place

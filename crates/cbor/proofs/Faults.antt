@@ -1,73 +1,35 @@
 -- A fault is the first: what was read before it is read alike whatever follows.
-use Rattle.std.proofs.Common.{◌≡◌, ℕ, zero, suc, ◌≤◌, Bool, true, false, cond, ◌⊎◌, List, [], ◌∷◌, ◌++◌, length, take, drop, Some, None, Ok, Err, Option, Result, sym, refl, ap, ◌∙◌, subst, inl, inr, ⊎_elim, append_assoc, arith, length-drop}
+use Rattle.std.proofs.Common.{◌≡◌, ℕ, zero, suc, ◌≤◌, Bool, true, false, cond, ◌⊎◌, List, [], ◌∷◌, ◌++◌, length, take, drop, Some, None, Ok, Err, Option, Result, sym, refl, ap, ◌∙◌, subst, inl, inr, ⊎_elim, append_assoc, arith}
 use Rattle.std.proofs.lemmas.List.{take_at, drop_at}
 use Rattle.cbor.specs.Steps.{or_fail, and_then}
-use Rattle.cbor.specs.Reader.{Said, number, negative, bytes, text, array, map, simple, Token, token, container, key, items, entries, inside, item, deepest, ended, whole}
+use Rattle.cbor.specs.Reader.{Said, number, negative, bytes, text, array, map, simple, token, container, key, items, entries, inside, item, deepest, ended, whole}
 use Rattle.cbor.specs.Grammar.{Value, Canonical, encode, encode_leaf, spelled}
-use Rattle.cbor.proofs.Keys.{never}
 use Rattle.cbor.proofs.Shortest.{Bytes, bytes_drop}
 use Rattle.cbor.proofs.Spelled.{token_complete, token_sound}
-use Rattle.cbor.proofs.Exact.{Reader, Reads, bytes_behind, keyed, key_complete, item_reads}
+use Rattle.cbor.proofs.Rests.{Reader, Leaves, left_of, rest_short, items_leave, entries_leave, item_leaves, ended_leaves, whole_leaves}
+use Rattle.cbor.proofs.Exact.{Reads, bytes_behind, keyed, key_complete, item_reads}
 
 -- how many bytes a reader leaves
 abbrev pub leftover : Result (List ℕ) (List ℕ) → ℕ
-leftover (Ok us) = length us
-leftover (Err us) = length us
+leftover r = length (left_of r)
 
 -- a reader never leaves more than it was given
 abbrev Shrinks : Reader → Type 0
 Shrinks read = (us : List ℕ) → leftover (read us) ≤ length us
 
+shrinks : (read : Reader) → Leaves read → Shrinks read
+shrinks read L us = rest_short us (left_of (read us)) (L us)
+
+item_shrink : (levels : ℕ) → Shrinks (item levels)
+item_shrink levels = shrinks (item levels) (item_leaves levels)
+
+ended_shrinks : Shrinks ended
+ended_shrinks = shrinks ended ended_leaves
+
 then_shrinks : (r : Result (List ℕ) (List ℕ)) (go : Reader) (n : ℕ) → leftover r ≤ n → Shrinks go → leftover (and_then r go) ≤ n
 unfolding and_then
 then_shrinks (Ok us) go n h k = omega (arith, k us)
 then_shrinks (Err us) go n h k = h
-
-or_shrinks : (o : Option Token) (us : List ℕ) (go : Token → Result (List ℕ) (List ℕ)) → ((t : Token) → leftover (go t) ≤ length us) → leftover (or_fail o us go) ≤ length us
-unfolding or_fail
-or_shrinks None us go h = omega arith
-or_shrinks (Some t) us go h = h t
-
-dropped : (n : ℕ) (us : List ℕ) → length (drop n us) ≤ length us
-dropped n us = omega (arith, length-drop n us)
-
-module _ (read : Reader) (S : Shrinks read) where
-  items-shrink : (n : ℕ) → Shrinks (items read n)
-  unfolding items
-  items-shrink zero us = omega arith
-  items-shrink (suc n) us = then_shrinks (read us) (items read n) (length us) (S us) (items-shrink n)
-
-  entries-shrink : (n : ℕ) (before : List ℕ) → Shrinks (entries read before n)
-  unfolding entries
-  entries-shrink zero before us = omega arith
-  entries-shrink (suc n) before us =
-      or_shrinks (key before us) us _ (λ t.
-      then_shrinks (read (drop t.size us)) (entries read (take t.size us) n) (length us) (omega (arith, S (drop t.size us), dropped t.size us)) (entries-shrink n (take t.size us)))
-
-  inside-shrink : (s : Said) → Shrinks (inside read s)
-  unfolding inside
-  inside-shrink (number n) us = omega arith
-  inside-shrink (negative n) us = omega arith
-  inside-shrink (bytes bs) us = omega arith
-  inside-shrink (text bs) us = omega arith
-  inside-shrink (array n) us = items-shrink n us
-  inside-shrink (map n) us = entries-shrink n [] us
-  inside-shrink (simple n) us = omega arith
-
-cond_shrinks : (b : Bool) (us xs : List ℕ) → length xs ≤ length us → leftover (cond b (Err us) (Ok xs)) ≤ length us
-cond_shrinks true us xs h = omega arith
-cond_shrinks false us xs h = h
-
-item_shrink : (levels : ℕ) → Shrinks (item levels)
-unfolding item
-item_shrink zero us = or_shrinks (token us) us _ (λ t. cond_shrinks (container t.said) us (drop t.size us) (dropped t.size us))
-item_shrink (suc levels) us =
-    or_shrinks (token us) us _ (λ t. omega (arith, inside-shrink (item levels) (item_shrink levels) t.said (drop t.size us), dropped t.size us))
-
-ended_shrinks : Shrinks ended
-unfolding ended
-ended_shrinks [] = omega arith
-ended_shrinks (b ∷ bs) = omega arith
 
 -- behind xs lies the fault, and whatever follows xs, nothing in xs is at fault
 abbrev pub Behind : Reader → List ℕ → List ℕ → Type 0
@@ -106,13 +68,13 @@ then_behind read go us ws S b = (b.0, b.1, λ ys. then_shrinks (read (b.0 ++ ys)
 le_self : (n : ℕ) → n ≤ n
 le_self n = omega arith
 
-module _ (read : Reader) (V : Type 0) (enc : V → List ℕ) (Fine : V → Type 0) (R : Reads read V enc Fine) (S : Shrinks read) (F : Faults read) where
+module _ (read : Reader) (V : Type 0) (enc : V → List ℕ) (Fine : V → Type 0) (R : Reads read V enc Fine) (L : Leaves read) (F : Faults read) where
   items-faults : (n : ℕ) → Faults (items read n)
   unfolding items and_then
-  items-faults zero us ws each e = never e
+  items-faults zero us ws each e = cc
   items-faults (suc n) us ws each e =
       ⊎_elim
-      (λ p. then_behind read (items read n) us ws (items-shrink read S n) (F us ws each p))
+      (λ p. then_behind read (items read n) us ws (shrinks (items read n) (items_leave read L n)) (F us ws each p))
       (λ h.
       let v = R.sound us h.0 each h.1 in
       past (items read n) (items read (suc n)) (enc v.0) h.0 ws (λ ys. rw (R.complete v.0 v.1 ys) (le_self (leftover (items read n ys)))) us v.2
@@ -124,7 +86,7 @@ module _ (read : Reader) (V : Type 0) (enc : V → List ℕ) (Fine : V → Type 
   unfolding and_then
   entry-faults n after before us ws each e =
       ⊎_elim
-      (λ p. then_behind read (entries read before n) us ws (entries-shrink read S n before) (F us ws each p))
+      (λ p. then_behind read (entries read before n) us ws (shrinks (entries read before n) (entries_leave read L n before)) (F us ws each p))
       (λ h.
       let v = R.sound us h.0 each h.1 in
       past (entries read before n) (λ zs. and_then (read zs) (entries read before n)) (enc v.0) h.0 ws (λ ys. rw (R.complete v.0 v.1 ys) (le_self (leftover (entries read before n ys)))) us v.2
@@ -133,10 +95,10 @@ module _ (read : Reader) (V : Type 0) (enc : V → List ℕ) (Fine : V → Type 
 
   entries-faults : (n : ℕ) (before : List ℕ) → Faults (entries read before n)
   unfolding entries or_fail
-  entries-faults zero before us ws each e = never e
+  entries-faults zero before us ws each e = cc
   entries-faults (suc n) before us ws each e =
       ⊎_elim
-      (λ p. at_once (entries read before (suc n)) (entries-shrink read S (suc n) before) us ws p.1)
+      (λ p. at_once (entries read before (suc n)) (shrinks (entries read before (suc n)) (entries_leave read L (suc n) before)) us ws p.1)
       (λ h.
       let t = h.0 in
       let k = keyed before us t each h.1 in
@@ -150,17 +112,17 @@ module _ (read : Reader) (V : Type 0) (enc : V → List ℕ) (Fine : V → Type 
 
   inside-faults : (s : Said) → Faults (inside read s)
   unfolding inside
-  inside-faults (number n) us ws each e = never e
-  inside-faults (negative n) us ws each e = never e
-  inside-faults (bytes bs) us ws each e = never e
-  inside-faults (text bs) us ws each e = never e
+  inside-faults (number n) us ws each e = cc
+  inside-faults (negative n) us ws each e = cc
+  inside-faults (bytes bs) us ws each e = cc
+  inside-faults (text bs) us ws each e = cc
   inside-faults (array n) us ws each e = items-faults n us ws each e
   inside-faults (map n) us ws each e = entries-faults n [] us ws each e
-  inside-faults (simple n) us ws each e = never e
+  inside-faults (simple n) us ws each e = cc
 
 pub err_if : (b : Bool) (us xs ws : List ℕ) → cond b (Err us) (Ok xs) ≡ Err ws → us ≡ ws
 err_if true us xs ws e = cc
-err_if false us xs ws e = never e
+err_if false us xs ws e = cc
 
 item_faults : (levels : ℕ) → Faults (item levels)
 unfolding item or_fail
@@ -179,17 +141,16 @@ item_faults (suc levels) us ws each e =
     past (inside (item levels) t.said) (item (suc levels)) front (drop t.size us) ws
     (λ ys. rw (token_complete t.said s.fine ys, drop_at front ys (length front) refl) (le_self (leftover (inside (item levels) t.said ys))))
     us s.is
-    (inside-faults (item levels) (Value levels) (encode levels) (Canonical levels) (item_reads levels) (item_shrink levels) (item_faults levels) t.said (drop t.size us) ws (bytes_drop t.size us each) h.2))
+    (inside-faults (item levels) (Value levels) (encode levels) (Canonical levels) (item_reads levels) (item_leaves levels) (item_faults levels) t.said (drop t.size us) ws (bytes_drop t.size us each) h.2))
     (or_err (token us) us _ ws e)
 
 pub ended_err : (us ws : List ℕ) → ended us ≡ Err ws → us ≡ ws
 unfolding ended
-ended_err [] ws e = never e
+ended_err [] ws e = cc
 ended_err (b ∷ bs) ws e = cc
 
 pub whole_shrinks : Shrinks whole
-unfolding whole
-whole_shrinks us = then_shrinks (item deepest us) ended (length us) (item_shrink deepest us) ended_shrinks
+whole_shrinks = shrinks whole whole_leaves
 
 then-ended : (r : Result (List ℕ) (List ℕ)) (ys : List ℕ) → r ≡ Ok ys → leftover (and_then r ended) ≤ leftover (ended ys)
 unfolding and_then

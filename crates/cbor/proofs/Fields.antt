@@ -1,14 +1,17 @@
--- One turn of the finder, by places.
-use Rattle.std.proofs.Common.{◌≡◌, ℕ, suc, ◌+◌, ◌-◌, ◌<◌, ◌≤◌, Bool, true, false, List, length, take, drop, IfSome, Some, None, Ok, Err, Option, Result, refl, ap, arith, length-drop, MatchResult}
+-- Items at places of a message, and one turn of the finder.
+use Rattle.std.proofs.Common.{◌≡◌, ℕ, suc, ◌+◌, ◌-◌, ◌<◌, ◌≤◌, min, Bool, true, false, List, length, drop, Some, None, Ok, Err, Result, sym, refl, ap, ◌∙◌, arith, length-drop}
+use Rattle.std.proofs.lemmas.List.{drop-drop}
 use Rattle.std.specs.Result.{result_ok}
-use Rattle.cbor.specs.Steps.{given}
-use Rattle.cbor.specs.Reader.{Said, Found, item, deepest, placed, read_at}
-use Rattle.cbor.specs.Meaning.{meant, read_told, left}
+use Rattle.cbor.specs.Steps.{given, or_fail}
+use Rattle.cbor.specs.Reader.{Said, Found, token, item, deepest, placed, read_at}
+use Rattle.cbor.specs.Meaning.{meant, read_told}
 use Rattle.cbor.specs.declared.item.Item.{Item}
 use Rattle.cbor.specs.declared.item.Item.TheVariants.{Number, Negative, Bytes, Text, Array, Map, False, True, Null}
 use Rattle.cbor.specs.declared.item.Part.{Part}
 use Rattle.cbor.specs.declared.item.Fault.{Fault}
-use Rattle.cbor.specs.Finder.{entry_count, end_at, seek_at, held_at, field_at}
+use Rattle.cbor.specs.Finder.{entry_count, end_at, seek_at, field_at}
+use Rattle.cbor.proofs.Rests.{Rest, rest_of_rest, rest_place, item_rest}
+use Rattle.cbor.proofs.Tokens.{Has, token_size}
 
 -- an answer that is no item is a fault
 pub no_item : (r : Result Part Fault) (x : Result Found ℕ) → read_told r ≡ x → ((p : Part) → r ≡ Ok p → ⊥) → (p : ℕ) × (Err p ≡ x)
@@ -16,83 +19,92 @@ no_item (Ok p) x e h = absurd (h p refl)
 no_item (Err f) x e h = (f.place, e)
 
 -- what is no map has no entries
-pub no-map : (i : Item) → ((n : ℕ) → i ≡ Map n → ⊥) → entry_count (meant i) ≡ None
-no-map (Number n) h = refl
-no-map (Negative n) h = refl
-no-map (Bytes s) h = refl
-no-map (Text s) h = refl
-no-map (Array n) h = refl
-no-map (Map n) h = absurd (h n refl)
-no-map False h = refl
-no-map True h = refl
-no-map Null h = refl
+pub no_map : (i : Item) → ((n : ℕ) → i ≡ Map n → ⊥) → entry_count (meant i) ≡ None
+no_map (Number n) h = refl
+no_map (Negative n) h = refl
+no_map (Bytes s) h = refl
+no_map (Text s) h = refl
+no_map (Array n) h = refl
+no_map (Map n) h = absurd (h n refl)
+no_map False h = refl
+no_map True h = refl
+no_map Null h = refl
 
-module _ (s : List ℕ) (at : ℕ) where
-  pub ends : (end : ℕ) → end ≤ length s → Ok (drop end s) ≡ item deepest (drop at s) → Some end ≡ end_at s at
+-- what `ok()` makes of an answer
+pub ok_none : {T E : Type 0} (r : Result T E) → None ≡ result_ok r → (e : E) × (r ≡ Err e)
+ok_none (Ok v) h = cc
+ok_none (Err e) h = (e, refl)
+
+pub ok_some : {T E : Type 0} (r : Result T E) (v : T) → Some v ≡ result_ok r → r ≡ Ok v
+ok_some (Ok w) v h = let q : w ≡ v = cc in ap Ok q
+ok_some (Err e) v h = cc
+
+-- the unread bytes at a place of a message
+module _ (s : List ℕ) (at : ℕ) (us : List ℕ) (is : drop at s ≡ us) where
+  pub read_lacks : (p : ℕ) → p ≡ min at (length s) → token us ≡ None → Err p ≡ read_at s at
+  unfolding read_at or_fail
+  read_lacks p h e = rw (is, e, h) refl
+
+  module _ (said : Said) (spelled behind : List ℕ) (h : Has us (token us) said spelled behind) where
+    pub behind_rest : Rest s behind
+    behind_rest = record { skipped = at + h.found.size; is = sym (drop-drop h.found.size at s) ∙ ap (drop h.found.size) is ∙ h.behind_is }
+
+    pub value_at : drop (length s - length behind) s ≡ behind
+    value_at = rest_place s behind behind_rest
+
+    sizes : (length s - length behind ≡ at + h.found.size) × (at < length s - length behind) × (length s - length behind ≤ length s)
+    sizes =
+        let size = token_size us h.found h.is in
+        let e = ap length h.behind_is in
+        let d = ap length is in
+        let all : (length s - at ≡ length us) × (length us - h.found.size ≡ length behind) = (sym (length-drop at s) ∙ d, sym (length-drop h.found.size us) ∙ e) in
+        (omega (arith, size.0, size.1, all.0, all.1), omega (arith, size.0, size.1, all.0, all.1), omega arith)
+
+    pub read_within : (at < length s - length behind) × (length s - length behind ≤ length s)
+    read_within = (sizes.1, sizes.2)
+
+    pub read_found : Ok (record { said = said; place = at; end = length s - length behind }) ≡ read_at s at
+    unfolding read_at or_fail
+    read_found = rw (is, h.is, h.said_is, sizes.0) refl
+
+  pub ends : (rest : List ℕ) → Ok rest ≡ item deepest us → Some (length s - length rest) ≡ end_at s at
   unfolding end_at placed
-  ends end l e = rw (← e) (ap Some (omega (arith, length-drop end s)))
+  ends rest e = rw (is, ← e) refl
 
-  pub no_end : (us : List ℕ) → Err us ≡ item deepest (drop at s) → None ≡ end_at s at
+  pub no_end : (rest : List ℕ) → Err rest ≡ item deepest us → None ≡ end_at s at
   unfolding end_at placed
-  no_end us e = rw (← e) refl
-
-  -- an answer of the checker
-  pub ends_at : (r : Result ℕ Fault) (o : Option ℕ) → o ≡ result_ok r → left s r ≡ item deepest (drop at s) → MatchResult r (λ end. (at < end) × (end ≤ length s)) (λ f. f.place ≤ length s) → record { answer : o ≡ end_at s at; within : IfSome o (λ end. (at < end) × (end ≤ length s)) }
-  ends_at (Ok end) o e is h = rw e (record { answer = ends end h.1 is; within = h })
-  ends_at (Err f) o e is h = rw e (record { answer = no_end (drop f.place s) is; within = tt })
-
-  pub held-lost : (p : ℕ) → Err p ≡ read_at s at → None ≡ held_at s at
-  unfolding held_at given
-  held-lost p e = rw (← e) refl
-
-  pub held_cut : (f : Found) → Ok f ≡ read_at s at → None ≡ end_at s at → None ≡ held_at s at
-  unfolding held_at given
-  held_cut f e c = rw (← e, ← c) refl
-
-  pub held-is : (f : Found) (end : ℕ) → Ok f ≡ read_at s at → Some end ≡ end_at s at → Some (record { found = f; raw = take (end - at) (drop at s) }) ≡ held_at s at
-  unfolding held_at given
-  held-is f end e c = rw (← e, ← c) refl
+  no_end rest e = rw (is, ← e) refl
 
 module _ (wanted : Said → Bool) (s : List ℕ) (n i at : ℕ) where
-  pub seek-none : n ≤ i → None ≡ seek_at wanted s (n - i) at
+  pub seek_none : n ≤ i → seek_at wanted s (n - i) at ≡ None
   unfolding seek_at
-  seek-none h = let e : n - i ≡ 0 = omega arith in rw e refl
+  seek_none h = let e : n - i ≡ 0 = omega arith in rw e refl
 
-  module _ (more : i < n) where
+  module _ (us : List ℕ) (is : drop at s ≡ us) (more : i < n) where
     step : n - i ≡ suc (n - (i + 1))
     step = omega arith
 
-    pub seek-lost : (p : ℕ) → Err p ≡ read_at s at → None ≡ seek_at wanted s (n - i) at
+    pub seek_lost : token us ≡ None → seek_at wanted s (n - i) at ≡ None
     unfolding seek_at given
-    seek-lost p e = rw (step, ← e) refl
+    seek_lost e = rw (step, ← read_lacks s at us is (min at (length s)) refl e) refl
 
-    pub seek_found : (f : Found) → Ok f ≡ read_at s at → wanted f.said ≡ true → Some f.end ≡ seek_at wanted s (n - i) at
-    unfolding seek_at given
-    seek_found f e w = rw (step, ← e, w) refl
+    module _ (said : Said) (spelled behind : List ℕ) (h : Has us (token us) said spelled behind) where
+      pub seek_found : wanted said ≡ true → seek_at wanted s (n - i) at ≡ Some (length s - length behind)
+      unfolding seek_at given
+      seek_found w = rw (step, ← read_found s at us is said spelled behind h, w) refl
 
-    pub seek-cut : (f : Found) → Ok f ≡ read_at s at → wanted f.said ≡ false → None ≡ end_at s f.end → None ≡ seek_at wanted s (n - i) at
-    unfolding seek_at given
-    seek-cut f e w c = rw (step, ← e, w, ← c) refl
+      pub seek_cut : (rest : List ℕ) → wanted said ≡ false → Err rest ≡ item deepest behind → seek_at wanted s (n - i) at ≡ None
+      unfolding seek_at given
+      seek_cut rest w e = rw (step, ← read_found s at us is said spelled behind h, w, ← no_end s (length s - length behind) behind (value_at s at us is said spelled behind h) rest e) refl
 
-    pub seek-more : (f : Found) (next : ℕ) → Ok f ≡ read_at s at → wanted f.said ≡ false → Some next ≡ end_at s f.end → seek_at wanted s (n - (i + 1)) next ≡ seek_at wanted s (n - i) at
-    unfolding seek_at given
-    seek-more f next e w c = rw (step, ← e, w, ← c) refl
+      pub seek_more : (rest : List ℕ) → wanted said ≡ false → Ok rest ≡ item deepest behind → (p : ℕ) × (drop p s ≡ rest) × (seek_at wanted s (n - (i + 1)) p ≡ seek_at wanted s (n - i) at)
+      unfolding seek_at given
+      seek_more rest w e = (
+        length s - length rest,
+        rest_place s rest (rest_of_rest s behind rest (behind_rest s at us is said spelled behind h) (item_rest deepest behind rest e)),
+        rw (step, ← read_found s at us is said spelled behind h, w, ← ends s (length s - length behind) behind (value_at s at us is said spelled behind h) rest e) refl,
+      )
 
-module _ (wanted : Said → Bool) (s : List ℕ) (at : ℕ) where
-  pub field-lost : (p : ℕ) → Err p ≡ read_at s at → None ≡ field_at wanted s at
-  unfolding field_at given
-  field-lost p e = rw (← e) refl
-
-  module _ (f : Found) (e : Ok f ≡ read_at s at) where
-    pub field-other : entry_count f.said ≡ None → None ≡ field_at wanted s at
-    unfolding field_at given
-    field-other c = rw (← e, c) refl
-
-    module _ (n : ℕ) (c : entry_count f.said ≡ Some n) where
-      pub field-none : None ≡ seek_at wanted s n f.end → None ≡ field_at wanted s at
-      unfolding field_at given
-      field-none k = rw (← e, c, ← k) refl
-
-      pub field_is : (value : ℕ) → Some value ≡ seek_at wanted s n f.end → held_at s value ≡ field_at wanted s at
-      unfolding field_at given
-      field_is value k = rw (← e, c, ← k) refl
+pub field_other : (wanted : Said → Bool) (s : List ℕ) (at : ℕ) (f : Found) → Ok f ≡ read_at s at → entry_count f.said ≡ None → None ≡ field_at wanted s at
+unfolding field_at given
+field_other wanted s at f e c = rw (← e, c) refl

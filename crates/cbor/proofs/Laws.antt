@@ -7,7 +7,6 @@ use Rattle.cbor.specs.Reader.{item, deepest, ended, whole, placed, checked}
 use Rattle.cbor.specs.Grammar.{encode}
 use Rattle.cbor.proofs.Shortest.{Bytes}
 use Rattle.cbor.specs.Laws.{Exactly, First}
-use Rattle.cbor.proofs.Keys.{never}
 use Rattle.cbor.proofs.Exact.{then_ok, item_reads}
 use Rattle.cbor.proofs.Faults.{leftover, Behind, whole_shrinks, whole_faults}
 
@@ -19,17 +18,17 @@ bytes_from (b ∷ bs) h = (h 0, bytes_from bs (λ i. h (suc i)))
 placed_ok : (s : List ℕ) (r : Result (List ℕ) (List ℕ)) (end : ℕ) → placed s r ≡ Ok end → (rest : List ℕ) × (r ≡ Ok rest)
 unfolding placed
 placed_ok s (Ok rest) end e = (rest, refl)
-placed_ok s (Err rest) end e = never (sym e)
+placed_ok s (Err rest) end e = cc
 
 pub placed_err : (s : List ℕ) (r : Result (List ℕ) (List ℕ)) (p : ℕ) → placed s r ≡ Err p → (rest : List ℕ) × (r ≡ Err rest) × (p ≡ length s - length rest)
 unfolding placed
-placed_err s (Ok rest) p e = never e
+placed_err s (Ok rest) p e = cc
 placed_err s (Err rest) p e = (rest, refl, cc)
 
 ended_ok : (us rest : List ℕ) → ended us ≡ Ok rest → us ≡ []
 unfolding ended
 ended_ok [] rest e = refl
-ended_ok (b ∷ bs) rest e = never (sym e)
+ended_ok (b ∷ bs) rest e = cc
 
 pub exactly : (message : List ℕ) (start : ℕ) → Bytes (drop start message) → Exactly message start
 unfolding checked whole and_then placed ended

@@ -8,9 +8,9 @@ use Rattle.cbor.specs.Reader.{Said, number, negative, bytes, text, array, simple
 use Rattle.cbor.specs.Reader as reader
 use Rattle.cbor.specs.Grammar.{Leaf, map, Value, head, says, encode_leaf, encode_entry, encode_node, encode, FineLeaf, Entries, Canonical}
 use Rattle.cbor.specs.Laws.{Other, Finds}
-use Rattle.cbor.proofs.Keys.{never}
 use Rattle.cbor.proofs.Spelled.{token_complete}
-use Rattle.cbor.proofs.Exact.{Reader, or_ok, then_ok, leaf-token, item_reads}
+use Rattle.cbor.proofs.Rests.{Reader}
+use Rattle.cbor.proofs.Exact.{or_ok, then_ok, leaf-token, item_reads}
 
 -- what one reader reads, another reads alike
 abbrev Reaches : Reader → Reader → Type 0
@@ -47,8 +47,8 @@ leaf-inside read (number n) us xs rest e = e
 leaf-inside read (negative n) us xs rest e = e
 leaf-inside read (bytes bs) us xs rest e = e
 leaf-inside read (text bs) us xs rest e = e
-leaf-inside read (array n) us xs rest e = never (sym e)
-leaf-inside read (reader.map n) us xs rest e = never (sym e)
+leaf-inside read (array n) us xs rest e = cc
+leaf-inside read (reader.map n) us xs rest e = cc
 leaf-inside read (simple n) us xs rest e = e
 
 -- with more levels left, no less is read
@@ -81,7 +81,7 @@ nothing_read (suc levels) = refl
 some_bytes : (levels : ℕ) (v : Value levels) → Canonical levels v → length (encode levels v) ≡ 0 → ⊥
 some_bytes levels v fine e =
     let none : encode levels v ++ [] ≡ [] = append-nil (encode levels v) ∙ nil_from_length (encode levels v) e in
-    never (sym ((item_reads levels).complete v fine []) ∙ ap (item levels) none ∙ nothing_read levels)
+    cc (sym ((item_reads levels).complete v fine []) ∙ ap (item levels) none ∙ nothing_read levels)
 
 begins : (levels : ℕ) (us rest : List ℕ) → item levels us ≡ Ok rest → (t : Token) × (token us ≡ Some t)
 unfolding item

@@ -1,55 +1,42 @@
--- The order of encoded keys, as the code compares them.
-use Rattle.std.proofs.Common.{◌≡◌, ℕ, ◌+◌, ◌/◌, ◌<◌, ◌≤◌, min, true, false, ltb, ◌⊎◌, List, [], ◌∷◌, length, get_or, drop, refl, inl, inr, ⊎_elim, arith}
-use Rattle.std.proofs.lemmas.List.{drop_more, drop_all}
-use Rattle.std.proofs.lemmas.Bool.{eq-eqb, ne_eqb, cases_lt}
+-- The order of encoded keys, as std compares them: major type, length, bytes.
+use Rattle.std.proofs.Common.{◌≡◌, ℕ, ◌/◌, ◌<◌, Bool, true, cond, eqb, ltb, List, [], ◌∷◌, length, Some, Option, Bor, refl, arith}
+use Rattle.std.specs.Cmp.Lexicographic.{slice_partial_cmp}
+use Rattle.std.specs.Ordering.{nat_cmp, is_lt, is_some_and, partial_ordering_then}
+use Rattle.std.specs.Option.{option_partial_cmp}
+use Rattle.std.specs.declared.cmp.Ordering.{Ordering}
+use Rattle.std.proofs.lemmas.Bool.Decides.{nat_tests}
 use Rattle.cbor.specs.Reader.{below, precedes}
+use Rattle.cbor.specs.Unread.{major_of}
 
-module _ (a b : List ℕ) (i : ℕ) where
-  pub below-differ : i < length a → i < length b → (get_or a i 0 ≡ get_or b i 0 → ⊥) → ltb (get_or a i 0) (get_or b i 0) ≡ below (drop i a) (drop i b)
-  unfolding below
-  below-differ h k ne = rw (drop_more a i 0 h, drop_more b i 0 k, ne_eqb (get_or a i 0) (get_or b i 0) ne) refl
+abbrev numbers : ℕ → ℕ → Option Ordering
+numbers m n = Some (nat_cmp m n)
 
-  pub below-same : i < length a → i < length b → get_or a i 0 ≡ get_or b i 0 → below (drop i a) (drop i b) ≡ below (drop (i + 1) a) (drop (i + 1) b)
-  unfolding below
-  below-same h k e = rw (drop_more a i 0 h, drop_more b i 0 k, eq-eqb (get_or a i 0) (get_or b i 0) e) refl
+-- by the first numbers, then by what is left
+first_then : (m n : ℕ) (rest : Option Ordering) (t : Bool) → (m ≡ n → is_some_and is_lt rest ≡ t) → is_some_and is_lt (partial_ordering_then (numbers m n) rest) ≡ cond (eqb m n) t (ltb m n)
+first_then m n rest t h = grind (arith, nat_tests)
 
-  nothing-below : (xs ys : List ℕ) → (xs ≡ []) ⊎ (ys ≡ []) → false ≡ below xs ys
-  unfolding below
-  nothing-below [] ys e = refl
-  nothing-below (x ∷ xs) [] e = refl
-  nothing-below (x ∷ xs) (y ∷ ys) (inl e) = absurd (let z : ◌≡◌ {A = ℕ} 0 1 = cc in omega arith)
-  nothing-below (x ∷ xs) (y ∷ ys) (inr e) = absurd (let z : ◌≡◌ {A = ℕ} 0 1 = cc in omega arith)
+-- strings of equal length
+below_same : (xs ys : List ℕ) → length xs ≡ length ys → is_some_and is_lt (slice_partial_cmp numbers xs ys) ≡ below xs ys
+unfolding below
+below_same [] [] h = refl
+below_same [] (y ∷ ys) h = absurd (omega arith)
+below_same (x ∷ xs) [] h = absurd (omega arith)
+below_same (x ∷ xs) (y ∷ ys) h = first_then x y _ _ (λ _. below_same xs ys (omega arith))
 
-  pub below_end : min (length a) (length b) ≤ i → false ≡ below (drop i a) (drop i b)
-  below_end h =
-      nothing-below (drop i a) (drop i b)
-      (⊎_elim (λ l. inr (drop_all i b (omega arith))) (λ l. inl (drop_all i a l)) (cases_lt i (length a)))
+two_then : (m n j k : ℕ) (rest : Option Ordering) (t : Bool) → (j ≡ k → is_some_and is_lt rest ≡ t) → is_some_and is_lt (partial_ordering_then (partial_ordering_then (numbers m n) (numbers j k)) rest) ≡ cond (eqb m n) (cond (eqb j k) t (ltb j k)) (ltb m n)
+two_then m n j k rest t h = grind (arith, nat_tests)
 
-pub precedes_none : (a b : List ℕ) → length a ≡ 0 → true ≡ precedes a b
+-- keys by their ranks
+ranks_lt : (a b : List ℕ) → 0 < length b → is_some_and is_lt (partial_ordering_then (partial_ordering_then (option_partial_cmp numbers (major_of a) (major_of b)) (numbers (length a) (length b))) (slice_partial_cmp numbers a b)) ≡ precedes a b
 unfolding precedes
-precedes_none [] b h = refl
-precedes_none (x ∷ xs) b h = absurd (omega arith)
+ranks_lt a [] h = absurd (omega arith)
+ranks_lt [] (y ∷ ys) h = refl
+ranks_lt (x ∷ xs) (y ∷ ys) h = two_then (x / 32) (y / 32) (length (x ∷ xs)) (length (y ∷ ys)) _ _ (λ e. below_same (x ∷ xs) (y ∷ ys) e)
 
-pub precedes_past : (a b : List ℕ) → (length a ≡ 0 → ⊥) → length b ≡ 0 → false ≡ precedes a b
-unfolding precedes
-precedes_past [] b h k = absurd (h refl)
-precedes_past (x ∷ xs) [] h k = refl
-precedes_past (x ∷ xs) (y ∷ ys) h k = absurd (omega arith)
+module _ (p q : Option ℕ × ℕ × Bor (List ℕ)) (a b : List ℕ) where
+  pub precedes_by_rank : p.0 ≡ major_of a → p.1 ≡ length a → p.2.now ≡ a → q.0 ≡ major_of b → q.1 ≡ length b → q.2.now ≡ b → 0 < length b → is_some_and is_lt (partial_ordering_then (partial_ordering_then (option_partial_cmp numbers p.0 q.0) (numbers p.1 q.1)) (slice_partial_cmp numbers p.2.now q.2.now)) ≡ precedes a b
+  precedes_by_rank m n x j k y h = rw (m, n, x, j, k, y) (ranks_lt a b h)
 
-pub precedes_major : (a b : List ℕ) → (length a ≡ 0 → ⊥) → (length b ≡ 0 → ⊥) → (get_or a 0 0 / 32 ≡ get_or b 0 0 / 32 → ⊥) → ltb (get_or a 0 0 / 32) (get_or b 0 0 / 32) ≡ precedes a b
+pub precedes_none : (b : List ℕ) → true ≡ precedes [] b
 unfolding precedes
-precedes_major [] b h k ne = absurd (h refl)
-precedes_major (x ∷ xs) [] h k ne = absurd (k refl)
-precedes_major (x ∷ xs) (y ∷ ys) h k ne = rw (ne_eqb (x / 32) (y / 32) ne) refl
-
-pub precedes-length : (a b : List ℕ) → (length a ≡ 0 → ⊥) → (length b ≡ 0 → ⊥) → get_or a 0 0 / 32 ≡ get_or b 0 0 / 32 → (length a ≡ length b → ⊥) → ltb (length a) (length b) ≡ precedes a b
-unfolding precedes
-precedes-length [] b h k e ne = absurd (h refl)
-precedes-length (x ∷ xs) [] h k e ne = absurd (k refl)
-precedes-length (x ∷ xs) (y ∷ ys) h k e ne = rw (eq-eqb (x / 32) (y / 32) e, ne_eqb (length (x ∷ xs)) (length (y ∷ ys)) ne) refl
-
-pub precedes_bytes : (a b : List ℕ) → (length a ≡ 0 → ⊥) → (length b ≡ 0 → ⊥) → get_or a 0 0 / 32 ≡ get_or b 0 0 / 32 → length a ≡ length b → below a b ≡ precedes a b
-unfolding precedes
-precedes_bytes [] b h k e same = absurd (h refl)
-precedes_bytes (x ∷ xs) [] h k e same = absurd (k refl)
-precedes_bytes (x ∷ xs) (y ∷ ys) h k e same = rw (eq-eqb (x / 32) (y / 32) e, eq-eqb (length (x ∷ xs)) (length (y ∷ ys)) same) refl
+precedes_none b = refl

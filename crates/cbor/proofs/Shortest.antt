@@ -5,7 +5,7 @@ use Rattle.std.proofs.lemmas.List.{take_at, length-reverse, reverse-reverse, len
 use Rattle.std.proofs.lemmas.Bool.{le-leb, lt-ltb, le-ltb, cases_lt, cases_eq, leb-true}
 use Rattle.cbor.specs.Head.{Argument, argument, following, big_endian, little_endian}
 use Rattle.cbor.specs.Grammar.{digits, head}
-use Rattle.cbor.proofs.Heads.{argument_low, argument_24, argument_25, argument_26, argument_27, argument_reserved}
+use Rattle.cbor.proofs.Heads.{argument_low, argument_reserved}
 
 -- a list of bytes
 abbrev pub Bytes : List ℕ → Type 0
@@ -79,13 +79,13 @@ module _ (info w least : ℕ) (announces : (bs : List ℕ) → following w least
       record { initial = 32 * major + info; behind = reverse (digits w n); is = e; type = type; reads = λ rest. rw low (whole n rest b l) }
 
 pub headed : (major n : ℕ) → n < 2 ^ 64 → Headed major n
-unfolding head
+unfolding head argument
 headed major n h =
     ⊎_elim (λ l. low l) (λ g0. ⊎_elim
-    (λ l. wide 24 1 24 (λ bs. argument_24 24 bs refl) (omega arith) major n (rw (le-ltb n 24 g0, lt-ltb n 256 l) refl) (omega arith) (omega arith)) (λ g1. ⊎_elim
-    (λ l. wide 25 2 256 (λ bs. argument_25 25 bs refl) (omega arith) major n (rw (le-ltb n 24 g0, le-ltb n 256 g1, lt-ltb n 65536 l) refl) (omega arith) (omega arith)) (λ g2. ⊎_elim
-    (λ l. wide 26 4 65536 (λ bs. argument_26 26 bs refl) (omega arith) major n (rw (le-ltb n 24 g0, le-ltb n 256 g1, le-ltb n 65536 g2, lt-ltb n 4294967296 l) refl) (omega arith) (omega arith))
-    (λ g3. wide 27 8 4294967296 (λ bs. argument_27 27 bs refl) (omega arith) major n (rw (le-ltb n 24 g0, le-ltb n 256 g1, le-ltb n 65536 g2, le-ltb n 4294967296 g3) refl) (omega arith) (omega arith))
+    (λ l. wide 24 1 24 (λ bs. refl) (omega arith) major n (rw (le-ltb n 24 g0, lt-ltb n 256 l) refl) (omega arith) (omega arith)) (λ g1. ⊎_elim
+    (λ l. wide 25 2 256 (λ bs. refl) (omega arith) major n (rw (le-ltb n 24 g0, le-ltb n 256 g1, lt-ltb n 65536 l) refl) (omega arith) (omega arith)) (λ g2. ⊎_elim
+    (λ l. wide 26 4 65536 (λ bs. refl) (omega arith) major n (rw (le-ltb n 24 g0, le-ltb n 256 g1, le-ltb n 65536 g2, lt-ltb n 4294967296 l) refl) (omega arith) (omega arith))
+    (λ g3. wide 27 8 4294967296 (λ bs. refl) (omega arith) major n (rw (le-ltb n 24 g0, le-ltb n 256 g1, le-ltb n 65536 g2, le-ltb n 4294967296 g3) refl) (omega arith) (omega arith))
     (cases_lt n 4294967296)) (cases_lt n 65536)) (cases_lt n 256)) (cases_lt n 24)
   where
     low : n < 24 → Headed major n
@@ -104,8 +104,8 @@ pub record Followed (w least : ℕ) (bs : List ℕ) (a : Argument) : Type 0 wher
 -- where two tests let something through, both held
 pub both_hold : {A : Type 0} (x y : Bool) (o : Option A) (a : A) → cond x (cond y o None) None ≡ Some a → (x ≡ true) × (y ≡ true) × (o ≡ Some a)
 both_hold true true o a e = (refl, refl, e)
-both_hold true false o a e = absurd (let z : ◌≡◌ {A = ℕ} 0 1 = cc in omega arith)
-both_hold false y o a e = absurd (let z : ◌≡◌ {A = ℕ} 0 1 = cc in omega arith)
+both_hold true false o a e = cc
+both_hold false y o a e = cc
 
 followed : (w least : ℕ) (bs : List ℕ) (a : Argument) → following w least bs ≡ Some a → Followed w least bs a
 unfolding following
@@ -157,19 +157,22 @@ module _ (b : ℕ) (bs : List ℕ) (a : Argument) (each : Bytes bs) where
       }
 
   none_written : None ≡ Some a → Written b bs a
-  none_written p = absurd (let z : ◌≡◌ {A = ℕ} 0 1 = cc in omega arith)
+  none_written p = cc
 
   pub written : argument (b % 32) bs ≡ Some a → Written b bs a
-  unfolding head
+  unfolding head argument
   written e =
       ⊎_elim (λ l. low l) (λ g0.
-      ⊎_elim (λ i. long-written 24 1 24 i (argument_24 _ bs i ∙ e) (λ n u l. let h : n < 256 = omega arith in (omega arith, rw (le-ltb n 24 l, lt-ltb n 256 h) refl))) (λ n24.
-      ⊎_elim (λ i. long-written 25 2 256 i (argument_25 _ bs i ∙ e) (λ n u l. let h : n < 65536 = omega arith in let k : 24 ≤ n = omega arith in (omega arith, rw (le-ltb n 24 k, le-ltb n 256 l, lt-ltb n 65536 h) refl))) (λ n25.
-      ⊎_elim (λ i. long-written 26 4 65536 i (argument_26 _ bs i ∙ e) (λ n u l. let h : n < 4294967296 = omega arith in let k : 24 ≤ n = omega arith in let k' : 256 ≤ n = omega arith in (omega arith, rw (le-ltb n 24 k, le-ltb n 256 k', le-ltb n 65536 l, lt-ltb n 4294967296 h) refl))) (λ n26.
-      ⊎_elim (λ i. long-written 27 8 4294967296 i (argument_27 _ bs i ∙ e) (λ n u l. let k : 24 ≤ n = omega arith in let k' : 256 ≤ n = omega arith in let k'' : 65536 ≤ n = omega arith in (omega arith, rw (le-ltb n 24 k, le-ltb n 256 k', le-ltb n 65536 k'', le-ltb n 4294967296 l) refl))) (λ n27.
+      ⊎_elim (λ i. long-written 24 1 24 i (announced i) (λ n u l. let h : n < 256 = omega arith in (omega arith, rw (le-ltb n 24 l, lt-ltb n 256 h) refl))) (λ n24.
+      ⊎_elim (λ i. long-written 25 2 256 i (announced i) (λ n u l. let h : n < 65536 = omega arith in let k : 24 ≤ n = omega arith in (omega arith, rw (le-ltb n 24 k, le-ltb n 256 l, lt-ltb n 65536 h) refl))) (λ n25.
+      ⊎_elim (λ i. long-written 26 4 65536 i (announced i) (λ n u l. let h : n < 4294967296 = omega arith in let k : 24 ≤ n = omega arith in let k' : 256 ≤ n = omega arith in (omega arith, rw (le-ltb n 24 k, le-ltb n 256 k', le-ltb n 65536 l, lt-ltb n 4294967296 h) refl))) (λ n26.
+      ⊎_elim (λ i. long-written 27 8 4294967296 i (announced i) (λ n u l. let k : 24 ≤ n = omega arith in let k' : 256 ≤ n = omega arith in let k'' : 65536 ≤ n = omega arith in (omega arith, rw (le-ltb n 24 k, le-ltb n 256 k', le-ltb n 65536 k'', le-ltb n 4294967296 l) refl))) (λ n27.
       none_written (argument_reserved (b % 32) bs (omega arith) ∙ e))
       (cases_eq (b % 32) 27)) (cases_eq (b % 32) 26)) (cases_eq (b % 32) 25)) (cases_eq (b % 32) 24)) (cases_lt (b % 32) 24)
     where
+      announced : {info : ℕ} → b % 32 ≡ info → argument info bs ≡ Some a
+      announced i = sym (ap (λ k. argument k bs) i) ∙ e
+
       low : b % 32 < 24 → Written b bs a
       low l =
           let p = argument_low (b % 32) bs l ∙ e in

@@ -69,7 +69,7 @@ says_cases major info n rest =
 
 pub given_some : {A B : Type 0} (o : Option A) (go : A → Option B) (b : B) → given o go ≡ Some b → (a : A) × (o ≡ Some a) × (go a ≡ Some b)
 unfolding given
-given_some None go b e = absurd (let z : ◌≡◌ {A = ℕ} 0 1 = cc in omega arith)
+given_some None go b e = cc
 given_some (Some a) go b e = (a, refl, e)
 
 -- an item that was read, as it is written
@@ -129,7 +129,7 @@ spelled_by b bs a p w (simple m) h =
 -- what is read was written so
 pub token_sound : (us : List ℕ) (t : Token) → Bytes us → token us ≡ Some t → Spelled us t
 unfolding token
-token_sound [] t each e = absurd (let z : ◌≡◌ {A = ℕ} 0 1 = cc in omega arith)
+token_sound [] t each e = cc
 token_sound (b ∷ bs) t each e =
     let g = given_some (argument (b % 32) bs) _ t e in
     let a = g.0 in

@@ -1,49 +1,59 @@
--- The item at a place, from what was read of its head and behind it.
-use Rattle.std.proofs.Common.{◌≡◌, ℕ, ◌+◌, ◌-◌, ◌/◌, ◌%◌, ◌<◌, ◌≤◌, List, ◌∷◌, length, get_or, take, drop, Some, None, Ok, Err, sym, refl, ap, ◌∙◌, arith, length-drop}
-use Rattle.std.proofs.lemmas.List.{drop_more, drop_all, take_rest}
-use Rattle.cbor.specs.Steps.{given, or_fail}
+-- An item that was read from the front of some bytes.
+use Rattle.std.proofs.Common.{◌≡◌, ℕ, ◌/◌, ◌%◌, ◌<◌, ◌≤◌, List, [], ◌∷◌, length, take, drop, IfSome, Some, None, Option, sym, refl, ap, ◌∙◌, arith, length-drop, length-take}
+use Rattle.std.specs.Option.{option_map}
+use Rattle.cbor.specs.Steps.{given}
 use Rattle.cbor.specs.Head.{argument}
-use Rattle.cbor.specs.Reader.{Said, Token, by_major, string_size, token, read_at}
-use Rattle.cbor.proofs.Strings.{fits}
+use Rattle.cbor.specs.declared.reading.Token as code
+use Rattle.cbor.specs.Meaning.{meant}
+use Rattle.cbor.specs.Unread.{token_told, token_of}
+use Rattle.cbor.specs.Reader.{Said, Token, by_major, string_size, token}
+use Rattle.cbor.proofs.Strings.{argument_within, string_within}
 
--- past the end nothing is read
-pub read_past : (bs : List ℕ) (at : ℕ) → length bs ≤ at → Err (length bs) ≡ read_at bs at
-unfolding read_at or_fail token
-read_past bs at h = rw (drop_all at bs h) (ap Err (omega arith))
+-- what was read is an item of the definitions, with its bytes and those behind them
+pub record Has (us : List ℕ) (o : Option Token) (said : Said) (spelled behind : List ℕ) : Type 0 where
+  pub found : Token
+  pub is : o ≡ Some found
+  pub said_is : found.said ≡ said
+  pub spelled_is : take found.size us ≡ spelled
+  pub behind_is : drop found.size us ≡ behind
 
-pub read_none : (bs : List ℕ) (at : ℕ) → at < length bs → token (drop at bs) ≡ None → Err at ≡ read_at bs at
-unfolding read_at or_fail
-read_none bs at l e = rw e (ap Err (omega arith))
+has : (us : List ℕ) (o : Option Token) (said : Said) (spelled behind : List ℕ) → Some (said, spelled, behind) ≡ option_map (token_of us) o → Has us o said spelled behind
+has us None said spelled behind e = cc
+has us (Some t) said spelled behind e =
+    let q : ◌≡◌ {A = Said × List ℕ × List ℕ} (said, spelled, behind) (token_of us t) = cc in
+    record { found = t; is = refl; said_is = sym (ap (λ p. p.0) q); spelled_is = sym (ap (λ p. p.1) q); behind_is = sym (ap (λ p. p.2) q) }
 
-pub read_some : (bs : List ℕ) (at end : ℕ) (t : Token) → end ≡ at + t.size → token (drop at bs) ≡ Some t → Ok (record { said = t.said; place = at; end = end }) ≡ read_at bs at
-unfolding read_at or_fail
-read_some bs at end t h e = rw (e, h) refl
+lacks : (us : List ℕ) (o : Option Token) → None ≡ option_map (token_of us) o → o ≡ None
+lacks us None e = refl
+lacks us (Some t) e = cc
 
--- `&s[i..]` as the checker reads it
-abbrev pub from : ℕ → List ℕ → List ℕ
-from i s = take (length s - i) (drop i s)
+-- by what the code answers
+module _ (us : List ℕ) (o : Option Token) (r : Option code.Token) (e : option_map token_told r ≡ option_map (token_of us) o) where
+  pub read_some : (t : code.Token) → r ≡ Some t → Has us o (meant t.item) t.spelled.now t.behind.now
+  read_some t is = has us o (meant t.item) t.spelled.now t.behind.now (sym (ap (option_map token_told) is) ∙ e)
 
--- an item from its head's argument and what lies behind the head
-module _ (bs : List ℕ) (at : ℕ) (l : at < length bs) where
-  split : drop at bs ≡ get_or bs at 0 ∷ from (at + 1) bs
-  split = drop_more bs at 0 l ∙ ap (λ r. get_or bs at 0 ∷ r) (sym (take_rest bs (at + 1)))
+  pub read_none : r ≡ None → o ≡ None
+  read_none is = lacks us o (sym (ap (option_map token_told) is) ∙ e)
 
-  pub no-argument : None ≡ argument (get_or bs at 0 % 32) (from (at + 1) bs) → token (drop at bs) ≡ None
-  unfolding token given
-  no-argument e = rw (split, ← e) refl
+if_given : {A B : Type 0} (P : A → Type 0) (Q : B → Type 0) (o : Option A) (go : A → Option B) → IfSome o P → ((a : A) → P a → IfSome (go a) Q) → IfSome (given o go) Q
+unfolding given
+if_given P Q None go h k = tt
+if_given P Q (Some a) go h k = k a h
 
-  module _ (n w : ℕ) (e : Some (record { value = n; width = w }) ≡ argument (get_or bs at 0 % 32) (from (at + 1) bs)) where
-    pub no_item : None ≡ by_major (get_or bs at 0 / 32) (get_or bs at 0 % 32) n (from w (from (at + 1) bs)) → token (drop at bs) ≡ None
-    unfolding token given
-    no_item k = rw (split, ← e, ← take_rest (from (at + 1) bs) w, ← k) refl
+-- an item takes at least one of the bytes, and no more than there are
+token_within : (us : List ℕ) → IfSome (token us) (λ t. (0 < t.size) × (t.size ≤ length us))
+unfolding token
+token_within [] = tt
+token_within (b ∷ bs) =
+    if_given (λ a. a.width ≤ length bs) _ (argument (b % 32) bs) _ (argument_within (b % 32) bs) (λ a l.
+    if_given (λ s. string_size s ≤ length (drop a.width bs)) _ (by_major (b / 32) (b % 32) a.value (drop a.width bs)) _ (string_within (b / 32) (b % 32) a.value (drop a.width bs)) (λ s m.
+    (omega arith, omega (arith, length-drop a.width bs))))
 
-    pub an_item : (s : Said) → Some s ≡ by_major (get_or bs at 0 / 32) (get_or bs at 0 % 32) n (from w (from (at + 1) bs)) → token (drop at bs) ≡ Some (record { said = s; size = 1 + w + string_size s })
-    unfolding token given
-    an_item s k = rw (split, ← e, ← take_rest (from (at + 1) bs) w, ← k) refl
+pub token_size : (us : List ℕ) (t : Token) → token us ≡ Some t → (0 < t.size) × (t.size ≤ length us)
+token_size us t e = rw e at (token_within us)
 
--- a string ends within the message
-pub ends_within : (major info n : ℕ) (bs : List ℕ) (s : Said) → Some s ≡ by_major major info n bs → string_size s ≤ length bs
-ends_within major info n bs s e = rw (← e) at (fits major info n bs)
-
-pub length_from : (i : ℕ) (s : List ℕ) → length (from i s) ≡ length s - i
-length_from i s = ap length (take_rest s i) ∙ length-drop i s
+pub spelled_some : (us : List ℕ) (said : Said) (spelled behind : List ℕ) → Has us (token us) said spelled behind → 0 < length spelled
+spelled_some us said spelled behind h =
+    let size = token_size us h.found h.is in
+    let e = ap length h.spelled_is in
+    omega (arith, length-take h.found.size us)

@@ -3,6 +3,7 @@ pub mod Head
 pub mod Reader
 pub mod Finder
 pub mod Meaning
+pub mod Unread
 pub mod Grammar
 pub mod Laws
 pub mod Examples

@@ -1,7 +1,5 @@
 -- What the values of the code mean, in the words of the definitions.
-use Rattle.std.specs.Prelude.{ℕ, Bool, List, drop, Some, None, Ok, Err, Option, Result}
-use Rattle.cbor.specs.declared.reading.Argument as code
-use Rattle.cbor.specs.Head.{Argument}
+use Rattle.std.specs.Prelude.{ℕ, Bool, Some, None, Ok, Err, Option, Result}
 use Rattle.cbor.specs.declared.item.Item.{Item}
 use Rattle.cbor.specs.declared.item.Item.TheVariants.{Number, Negative, Bytes, Text, Array, Map, False, True, Null}
 use Rattle.cbor.specs.declared.item.Part.{Part}
@@ -37,16 +35,6 @@ read_told (Err f) = Err f.place
 abbrev pub told : Result ℕ Fault → Result ℕ ℕ
 told (Ok end) = Ok end
 told (Err f) = Err f.place
-
--- the same, by the unread bytes
-abbrev pub left : List ℕ → Result ℕ Fault → Result (List ℕ) (List ℕ)
-left message (Ok end) = Ok (drop end message)
-left message (Err f) = Err (drop f.place message)
-
--- the argument of a head
-abbrev pub argument_told : Option code.Argument → Option Argument
-argument_told None = None
-argument_told (Some a) = Some (record { value = a.value; width = a.width })
 
 -- the items that a key names
 abbrev pub named : Key → Said → Bool

@@ -1,139 +1,139 @@
 //! Whether a message is one canonical item, and where it first breaks a rule.
 
-ghost use Rattle.std.specs.Prelude.{◌≡◌, ◌+◌, ◌<◌, ◌≤◌, [], length, drop, MatchResult};
-ghost use Rattle.cbor.specs.Reader.{below, precedes, may_be_key, key_at, items, entries, item, checked};
+ghost use Rattle.std.specs.Prelude.{◌≡◌, ◌+◌, ◌<◌, length, [], MatchResult};
+ghost use Rattle.std.specs.Option.{option_map};
+ghost use Rattle.cbor.specs.Reader.{precedes, may_be_key, key, items, entries, item, checked};
 ghost use Rattle.cbor.specs.Fault.{Placed};
 ghost use Rattle.cbor.specs.Laws.{Exactly, First};
-ghost use Rattle.cbor.specs.Meaning.{meant, told, left};
+ghost use Rattle.cbor.specs.Meaning.{meant, told};
+ghost use Rattle.cbor.specs.Unread.{told_rest, earlier, major_of, token_told, token_of};
 
-use crate::item::{Fault, Item, Part};
-use crate::reading::read;
+use crate::item::{Fault, Item};
+use crate::reading::{Token, place_of, read_token, unread};
 
 /// How many maps and arrays may lie inside one another, the outer one among them.
 pub(crate) const LEVELS: u8 = 4;
 
-/// Byte order between strings of equal length.
-fn is_below(a: &[u8], b: &[u8]) -> bool
-    ensures { result ≡ below a.now b.now }
+/// A rule is broken; what is held are the bytes from the first faulty item on.
+#[derive(Clone, Copy)]
+pub(crate) struct FaultyRest<'a>(&'a [u8]);
+
+/// What encoded map keys are ordered by: major type, then length, then byte order.
+fn rank(key: &[u8]) -> (Option<u8>, usize, &[u8])
+    ensures major { result.0 ≡ major_of key.now }
+    ensures len { result.1 ≡ length key.now }
+    ensures bytes { result.2.now ≡ key.now }
 {
-    let both = a.len().min(b.len());
-    for i in 0..both {
-        if a[i] != b[i] {
-            return a[i] < b[i];
-        }
-    }
-    false
+    (key.first().map(|initial| *initial / 32), key.len(), key)
 }
 
-/// The order of encoded map keys: major type, then length, then byte order; the empty string stands for no key.
-fn comes_before(a: &[u8], b: &[u8]) -> bool
-    ensures { result ≡ precedes a.now b.now }
+/// Whether a map key comes after the one before it, where there is one.
+// `is_none_or` here, and `filter` in `read_key`, are no plainer: their closures would need clauses of their own.
+fn comes_after(key: &[u8], before: Option<&[u8]>) -> bool
+    requires { 0 < length key.now }
+    ensures { result ≡ precedes (earlier before.entry) key.now }
 {
-    if a.is_empty() {
-        return true;
+    match before {
+        None => true,
+        Some(before) => rank(before) < rank(key),
     }
-    if b.is_empty() {
-        return false;
-    }
-    let major = a[0] / 32;
-    let other = b[0] / 32;
-    if major != other {
-        return major < other;
-    }
-    if a.len() != b.len() {
-        return a.len() < b.len();
-    }
-    is_below(a, b)
 }
 
 /// A map key is a number, a negative number or a string.
 fn may_be_key(key: &Item) -> bool
     ensures { result ≡ may_be_key (meant key.now) }
 {
-    match key {
-        Item::Number(_) | Item::Negative(_) | Item::Bytes(_) | Item::Text(_) => true,
-        _ => false,
-    }
+    matches!(
+        key,
+        Item::Number(_) | Item::Negative(_) | Item::Bytes(_) | Item::Text(_)
+    )
 }
 
-/// The end of the map key at a place, which comes after the key encoded as `before`.
-fn check_key(s: &[u8], at: usize, before: &[u8]) -> Result<usize, Fault>
-    ensures answer { told result ≡ key_at before.now s.now at }
-    ensures within { MatchResult result (λ end. (at < end) × (end ≤ length s.now)) (λ f. f.place ≤ length s.now) }
+/// The key that the bytes begin with, if it may be one and comes after the one before it.
+#[tactic(auto, unfolding(crate::specs::Reader::key, crate::specs::Steps::given))]
+fn read_key<'a>(bytes: &'a [u8], before: Option<&[u8]>) -> Option<Token<'a>>
+    ensures { option_map token_told result ≡ option_map (token_of bytes.now) (key (earlier before.entry) bytes.now) }
 {
-    let Part { item, end, .. } = read(s, at)?;
-    if !may_be_key(&item) {
-        return Err(Fault { place: at });
+    let key = read_token(bytes)?;
+    if may_be_key(&key.item) && comes_after(key.spelled, before) {
+        Some(key)
+    } else {
+        None
     }
-    if !comes_before(before, &s[at..end]) {
-        return Err(Fault { place: at });
-    }
-    Ok(end)
 }
 
 /// One item with all that lies inside it, where so many levels of maps and arrays are left.
 #[cycle(check_entries_check_item_check_items)]
-pub(crate) fn check_item(s: &[u8], at: usize, levels: u8) -> Result<usize, Fault>
-    ensures answer { left s.now result ≡ item levels (drop at s.now) }
-    ensures within { MatchResult result (λ end. (at < end) × (end ≤ length s.now)) (λ f. f.place ≤ length s.now) }
+#[tactic(auto, unfolding(crate::specs::Reader::item, crate::specs::Reader::inside, crate::specs::Steps::or_fail))]
+pub(crate) fn check_item(bytes: &[u8], levels: u8) -> Result<&[u8], FaultyRest<'_>>
+    ensures { told_rest result ≡ item levels bytes.now }
 {
-    let Part { item, end, .. } = read(s, at)?;
+    let Token { item, behind, .. } = read_token(bytes).ok_or(FaultyRest(bytes))?;
     match item {
-        Item::Array(count) => check_items(s, end, count, deeper(levels, at)?),
-        Item::Map(count) => check_entries(s, end, count, deeper(levels, at)?),
-        _ => Ok(end),
+        Item::Array(count) => check_items(behind, count, deeper(levels, bytes)?),
+        Item::Map(count) => check_entries(behind, count, deeper(levels, bytes)?),
+        _ => Ok(behind),
     }
 }
 
-/// One level less for what lies inside a map or an array, which is a fault where no level is left.
-fn deeper(levels: u8, place: usize) -> Result<u8, Fault>
-    ensures { MatchResult result (λ less. less + 1 ≡ levels) (λ f. (levels ≡ 0) × (f.place ≡ place)) }
+/// One level less for what lies inside the map or array that the bytes begin with, which is a fault where no level is left.
+fn deeper(levels: u8, bytes: &[u8]) -> Result<u8, FaultyRest<'_>>
+    ensures { MatchResult result (λ less. less + 1 ≡ levels) (λ broken. (levels ≡ 0) × (broken.0.now ≡ bytes.now)) }
 {
-    if levels == 0 {
-        return Err(Fault { place });
-    }
-    Ok(levels - 1)
+    levels.checked_sub(1).ok_or(FaultyRest(bytes))
 }
 
 /// So many items in a row.
+// The loop counts items, and no index. `try_fold` is no plainer: in a cycle of calls its closure needs clauses of its own.
 #[cycle(check_entries_check_item_check_items)]
-fn check_items(s: &[u8], start: usize, count: u64, levels: u8) -> Result<usize, Fault>
-    ensures answer { left s.now result ≡ items (item levels) count (drop start s.now) }
-    ensures within { start ≤ length s.now → MatchResult result (λ end. (start ≤ end) × (end ≤ length s.now)) (λ f. f.place ≤ length s.now) }
+#[tactic(auto, unfolding(crate::specs::Reader::items, crate::specs::Steps::and_then))]
+fn check_items(start: &[u8], count: u64, levels: u8) -> Result<&[u8], FaultyRest<'_>>
+    ensures { told_rest result ≡ items (item levels) count start.now }
 {
-    let mut at = start;
+    let mut rest = start;
     for _i in 0..count {
-        at = check_item(s, at, levels)?;
+        rest = check_item(rest, levels)?;
     }
-    Ok(at)
+    Ok(rest)
 }
 
 /// So many keys in ascending order, each with its value.
+// A loop, as in `check_items` and for the same reason.
 #[cycle(check_entries_check_item_check_items)]
-fn check_entries(s: &[u8], start: usize, count: u64, levels: u8) -> Result<usize, Fault>
-    ensures answer { left s.now result ≡ entries (item levels) [] count (drop start s.now) }
-    ensures within { start ≤ length s.now → MatchResult result (λ end. (start ≤ end) × (end ≤ length s.now)) (λ f. f.place ≤ length s.now) }
+#[tactic(auto, unfolding(crate::specs::Reader::entries, crate::specs::Steps::and_then, crate::specs::Steps::or_fail))]
+fn check_entries(start: &[u8], count: u64, levels: u8) -> Result<&[u8], FaultyRest<'_>>
+    ensures { told_rest result ≡ entries (item levels) [] count start.now }
 {
-    let mut at = start;
-    let mut before: &[u8] = &[];
+    let mut rest = start;
+    let mut before = None;
     for _i in 0..count {
-        let end = check_key(s, at, before)?;
-        before = &s[at..end];
-        at = check_item(s, end, levels)?;
+        let Token {
+            spelled,
+            behind,
+            ..
+        } = read_key(rest, before).ok_or(FaultyRest(rest))?;
+        before = Some(spelled);
+        rest = check_item(behind, levels)?;
     }
-    Ok(at)
+    Ok(rest)
 }
 
 /// Whether the message from `start` on is exactly one canonical item: its end, or where it first breaks a rule.
+#[tactic(auto, unfolding(crate::specs::Reader::checked, crate::specs::Reader::whole, crate::specs::Reader::placed, crate::specs::Reader::ended, crate::specs::Steps::and_then))]
 pub fn check(message: &[u8], start: usize) -> Result<usize, Fault>
     ensures answer { told result ≡ checked message.now start }
     ensures exactly { Exactly message.now start }
     ensures first { First message.now start }
     ensures place { Placed message.now start }
 {
-    let end = check_item(message, start, LEVELS)?;
-    if end < message.len() {
-        return Err(Fault { place: end });
+    match check_item(unread(message, start), LEVELS) {
+        Ok([]) => Ok(message.len()),
+        // Two arms: with `|` the bound that `place_of` asks for is reached only by a name that is the prover's own.
+        Ok(surplus) => Err(Fault {
+            place: place_of(message, surplus),
+        }),
+        Err(FaultyRest(rest)) => Err(Fault {
+            place: place_of(message, rest),
+        }),
     }
-    Ok(end)
 }

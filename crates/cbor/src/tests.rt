@@ -1,8 +1,6 @@
 //! The edges of canonical reading.
 
-use crate::finding::{Field, Key};
-use crate::item::{Fault, Part};
-use crate::{check, find};
+use crate::{Fault, Key, check, find};
 use std::process::Abort;
 
 /// Checks that the message is read from its second byte on, to its end.
@@ -73,15 +71,7 @@ fn levels_and_keys(rt: HostRuntime) {
 
 /// Checks the place and the bytes of a field, or that there is none.
 fn holds(rt: &impl Abort, message: &[u8], key: Key, wanted: Option<(usize, &[u8])>) {
-    let found = match find(message, 1, key) {
-        Some(
-            Field {
-                part: Part { place, .. },
-                raw,
-            },
-        ) => Some((place, raw)),
-        None => None,
-    };
+    let found = find(message, 1, key).map(|field| (field.part.place, field.raw));
     assert_eq!(rt; found, wanted);
 }
 

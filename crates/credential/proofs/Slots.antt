@@ -6,7 +6,6 @@ use Rattle.std.proofs.lemmas.List.{append_assoc, length-append, length-replicate
 use Rattle.std.proofs.lemmas.Bool.Decides.{nat_tests}
 use Rattle.credential.specs.Rec.{Rec, is_within}
 use Rattle.credential.specs.Slot.{Entry, put, gone, Content, empty, holds, field, slot, withdrawal, free, written, slot_of, Fit, piece, fields_in, record_in, content_of, Exactly}
-use Rattle.credential.proofs.Records.{same_rec}
 
 -- the limits of a record, as facts
 pub record Limits (r : Rec) : Type 0 where
@@ -15,8 +14,8 @@ pub record Limits (r : Rec) : Type 0 where
   pub called : length r.name ≤ 64
   pub shown : length r.display_name ≤ 64
   pub id : length r.credential_id ≡ 32
-  pub across : length r.x ≡ 32
-  pub up : length r.y ≡ 32
+  pub x : length r.x ≡ 32
+  pub y : length r.y ≡ 32
 
 pub limits : (r : Rec) → is_within r ≡ true → Limits r
 unfolding is_within
@@ -26,12 +25,12 @@ limits r h = record {
   called = grind (arith, nat_tests);
   shown = grind (arith, nat_tests);
   id = grind (arith, nat_tests);
-  across = grind (arith, nat_tests);
-  up = grind (arith, nat_tests);
+  x = grind (arith, nat_tests);
+  y = grind (arith, nat_tests);
 }
 
-length_field : (size : ℕ) (bs : List ℕ) → length bs ≤ size → length (field size bs) ≡ size
-length_field size bs le = length-append bs (replicate (size - length bs) 0) ∙ ap (λ k. length bs + k) (length-replicate (size - length bs) 0) ∙ omega arith
+pub length_field : (size : ℕ) (bs : List ℕ) → length bs ≤ size → length (field size bs) ≡ size
+length_field size bs le = grind (arith, length-append, length-replicate)
 
 pub length-free : length free ≡ 512
 unfolding free
@@ -102,25 +101,26 @@ module _ (r : Rec) (l : Limits r) where
 
   from-400 : drop 400 (slot r) ≡ y-on
   unfolding x-on
-  from-400 = behind 368 32 (slot r) r.x y-on from-368 l.across
+  from-400 = behind 368 32 (slot r) r.x y-on from-368 l.x
 
   from-432 : drop 432 (slot r) ≡ replicate 80 0
   unfolding y-on
-  from-432 = behind 400 32 (slot r) r.y (replicate 80 0) from-400 l.up
+  from-432 = behind 400 32 (slot r) r.y (replicate 80 0) from-400 l.y
 
   -- the fields are found where they were written
   fields-slot : fields_in (slot r) ≡ r
   unfolding fields_in slot rp-on user-on called_on shown-on id-on x-on y-on
   fields-slot =
-      same_rec _ r
-      (starts-field 16 (length r.rp_id) 128 (slot r) r.rp_id user-on from-16 refl)
-      (starts-field 144 (length r.user_id) 64 (slot r) r.user_id called_on from-144 refl)
-      (starts-field 208 (length r.name) 64 (slot r) r.name shown-on from-208 refl)
-      (starts-field 272 (length r.display_name) 64 (slot r) r.display_name id-on from-272 refl)
-      (starts 336 32 (slot r) r.credential_id x-on from-336 l.id)
-      (starts 368 32 (slot r) r.x y-on from-368 l.across)
-      (starts 400 32 (slot r) r.y (replicate 80 0) from-400 l.up)
-      refl
+      λ i. record {
+        rp_id = starts-field 16 (length r.rp_id) 128 (slot r) r.rp_id user-on from-16 refl i;
+        user_id = starts-field 144 (length r.user_id) 64 (slot r) r.user_id called_on from-144 refl i;
+        name = starts-field 208 (length r.name) 64 (slot r) r.name shown-on from-208 refl i;
+        display_name = starts-field 272 (length r.display_name) 64 (slot r) r.display_name id-on from-272 refl i;
+        credential_id = starts 336 32 (slot r) r.credential_id x-on from-336 l.id i;
+        x = starts 368 32 (slot r) r.x y-on from-368 l.x i;
+        y = starts 400 32 (slot r) r.y (replicate 80 0) from-400 l.y i;
+        cred_protect = r.cred_protect;
+      }
 
   length-slot : length (slot r) ≡ 512
   length-slot = omega (arith, length-drop 432 (slot r), ap length from-432)
@@ -130,16 +130,15 @@ same_refl bs = (bytes_eq-Decides bs bs).1 refl
 
 pub content-free : content_of free ≡ Some empty
 unfolding content_of
-content-free =
-    ap (λ b. cond b (Some empty) (cond (bytes_eq free (withdrawal (get_or free 6 0))) (Some (holds (gone (get_or free 6 0)))) (record_in free (fields_in free)))) (same_refl free)
+content-free = rw (same_refl free) refl
 
 content-gone : (place : ℕ) → content_of (withdrawal place) ≡ Some (holds (gone place))
 unfolding content_of withdrawal free
-content-gone place = ap (λ b. cond b (Some (holds (gone place))) (record_in (withdrawal place) (fields_in (withdrawal place)))) (same_refl (withdrawal place))
+content-gone place = rw (same_refl (withdrawal place)) refl
 
 record_in_lem : (bs : List ℕ) (r : Rec) → is_within r ≡ true → bytes_eq bs (slot r) ≡ true → record_in bs r ≡ Some (holds (put r))
 unfolding record_in
-record_in_lem bs r w e = ap (λ b. cond (b && bytes_eq bs (slot r)) (Some (holds (put r))) None) w ∙ ap (λ b. cond b (Some (holds (put r))) None) e
+record_in_lem bs r w e = rw (w, e) refl
 
 no_other : (r : Rec) → content_of (slot r) ≡ record_in (slot r) (fields_in (slot r))
 unfolding content_of slot withdrawal free
@@ -170,7 +169,7 @@ meant_as : (bs : List ℕ) (c d : Content) → Some c ≡ Some d → Meant bs c 
 meant_as bs c d e m = let is : c ≡ d = cc in subst (Meant bs) is m
 
 nothing : {P : Type 0} (c : Content) → None ≡ Some c → P
-nothing c e = let z : ◌≡◌ {A = ℕ} 0 1 = cc in absurd (omega arith)
+nothing c e = absurd (cc)
 
 of_record : (bs : List ℕ) (r : Rec) (w same : Bool) → is_within r ≡ w → bytes_eq bs (slot r) ≡ same → (c : Content) → cond (w && same) (Some (holds (put r))) None ≡ Some c → Meant bs c
 unfolding Meant

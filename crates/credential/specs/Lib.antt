@@ -1,4 +1,3 @@
 pub mod Rec
-pub mod Texts
 pub mod Model
 pub mod Slot

@@ -1,15 +1,14 @@
 -- What the values of the code mean, in the words of the definitions.
 use Rattle.std.specs.Prelude.{ℕ, Some, None, Option}
-use Rattle.credential.specs.declared.making.OutsideLimits.{OutsideLimits}
-use Rattle.credential.specs.declared.record.CredProtect.{CredProtect}
-use Rattle.credential.specs.declared.record.CredProtect.TheVariants.{UserVerificationOptional, UserVerificationOptionalWithCredentialIdList, UserVerificationRequired}
-use Rattle.credential.specs.declared.record.Record.{Record}
+use Rattle.credential.specs.declared.limits.OutsideLimits.{OutsideLimits}
+use Rattle.credential.specs.declared.protection.CredProtect.{CredProtect}
+use Rattle.credential.specs.declared.protection.CredProtect.TheVariants.{UserVerificationOptional, UserVerificationOptionalWithCredentialIdList, UserVerificationRequired}
+use Rattle.credential.specs.declared.record.Record.TheInside.{Inside}
 use Rattle.credential.specs.declared.record.Fields.{Fields}
 use Rattle.credential.specs.declared.slot.Slot.{Slot}
 use Rattle.credential.specs.declared.slot.Slot.TheVariants as slots
 use Rattle.credential.specs.Rec.{Rec}
 use Rattle.credential.specs.Slot.{Content, empty, holds, put, gone}
-use Rattle.credential.specs.Texts.{content}
 
 -- the status number of a field outside its limits
 abbrev pub code : OutsideLimits → ℕ
@@ -21,13 +20,13 @@ protection UserVerificationOptional = 1
 protection UserVerificationOptionalWithCredentialIdList = 2
 protection UserVerificationRequired = 3
 
--- what a record holds
-abbrev pub model : Record → Rec
+-- what a record holds, by the fields of the struct: everywhere else a record of the code is this
+abbrev pub model : Inside → Rec
 model r = record {
-  rp_id = content r.rp_id;
-  user_id = content r.user_id;
-  name = content r.name;
-  display_name = content r.display_name;
+  rp_id = r.rp_id;
+  user_id = r.user_id;
+  name = r.name;
+  display_name = r.display_name;
   credential_id = r.credential_id;
   x = r.x;
   y = r.y;
@@ -51,15 +50,10 @@ given f = record {
 abbrev pub told : Option Slot → Option Content
 told None = None
 told (Some slots.Free) = Some empty
-told (Some (slots.Record r)) = Some (holds (put (model r)))
+told (Some (slots.Record r)) = Some (holds (put r))
 told (Some (slots.Withdrawal p)) = Some (holds (gone p))
 
--- a record, if there is one
-abbrev pub model_of : Option Record → Option Rec
-model_of None = None
-model_of (Some r) = Some (model r)
-
 -- the record that a slot was read as
-abbrev pub record_told : Option Record → Option Content
+abbrev pub record_told : Option Rec → Option Content
 record_told None = None
-record_told (Some r) = Some (holds (put (model r)))
+record_told (Some r) = Some (holds (put r))

@@ -1,5 +1,5 @@
 -- A slot of 512 bytes: free, the writing of a record, or a withdrawal.
-use Rattle.std.specs.Prelude.{◌≡◌, ℕ, ◌-◌, true, cond, ◌&&◌, List, ◌∷◌, ◌++◌, length, take, drop, replicate, Some, None, Option, slice_index}
+use Rattle.std.specs.Prelude.{◌≡◌, ℕ, ◌-◌, true, if◌then◌else◌, ◌&&◌, List, ◌∷◌, ◌++◌, length, take, drop, replicate, Some, None, Option, slice_index}
 use Rattle.std.specs.Str.{bytes_eq}
 use Rattle.credential.specs.Rec.{Rec, is_within}
 
@@ -71,14 +71,14 @@ fields_in bs = record {
 
 -- a record, if it is within its limits and the bytes are its slot
 unfoldable pub record_in : List ℕ → Rec → Option Content
-record_in bs r = cond (is_within r && bytes_eq bs (slot r)) (Some (holds (put r))) None
+record_in bs r = if is_within r && bytes_eq bs (slot r) then Some (holds (put r)) else None
 
 -- what a slot holds; nothing can be read of bytes that are no slot
 unfoldable pub content_of : List ℕ → Option Content
 content_of bs =
-    cond (bytes_eq bs free) (Some empty)
-    (cond (bytes_eq bs (withdrawal (slice_index bs 6))) (Some (holds (gone (slice_index bs 6))))
-    (record_in bs (fields_in bs)))
+    if bytes_eq bs free then Some empty
+    else (if bytes_eq bs (withdrawal (slice_index bs 6)) then Some (holds (gone (slice_index bs 6)))
+    else record_in bs (fields_in bs))
 
 -- the record that a slot holds, if it holds one
 abbrev pub record_of : Option Content → Option Rec

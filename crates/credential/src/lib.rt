@@ -2,16 +2,17 @@
 
 #![tactic(auto)]
 
-mod making;
+mod limits;
+mod protection;
 mod record;
 mod slot;
 mod store;
 #[cfg(test)]
 mod tests;
 mod text;
-mod texts;
 
-pub use making::OutsideLimits;
-pub use record::{CredProtect, Fields, Record};
+pub use limits::OutsideLimits;
+pub use protection::CredProtect;
+pub use record::{Fields, Record};
 pub use slot::{SLOT, Slot, withdrawal};
-pub use store::Store;
+pub use store::{Full, NoRecord, Store};

@@ -1,16 +1,17 @@
 //! A slot: how a record or a withdrawal is written into 512 bytes, and how it is read.
 
-ghost use Rattle.std.specs.Prelude.{◌≡◌, ◌+◌, ◌≤◌, ◌++◌, length, take, drop, Some};
-ghost use Rattle.credential.specs.Model.{model, model_of, given, told, record_told};
+ghost use Rattle.std.specs.Prelude.{◌≡◌, ◌+◌, ◌≤◌, ◌++◌, length, take, drop, true, Some};
+ghost use Rattle.credential.specs.Rec.{is_within};
+ghost use Rattle.credential.specs.Model.{given, told, record_told};
 ghost use Rattle.credential.specs.Slot.{header, slot, withdrawal as withdrawn, piece, fields_in, record_in, content_of, record_of, Exactly};
 
-use crate::making::number_of;
 use crate::record::{Fields, ID, Record};
 use sha256::same;
 
 /// The size of a slot.
 pub const SLOT: usize = 512;
 
+// Marks and offsets are the format's numbers (docs/STORAGE.md).
 /// The mark of a slot that holds a record, and of one that holds a withdrawal.
 const RECORD: u8 = 1;
 
@@ -56,36 +57,18 @@ pub enum Slot {
 
 impl Slot {
     /// What a slot of these bytes holds; nothing where they are no slot.
+    #[tactic(auto, using(crate::proofs::Slots::exact, crate::proofs::Slots::content_other))]
     pub fn from_bytes(bytes: &[u8]) -> Option<Slot>
         ensures answer { told result ≡ content_of bytes.now }
         ensures exactly { Exactly bytes.now }
     {
-        if bytes.len() != SLOT {
-            return None;
-        }
-        if same(bytes, &[0; SLOT]) {
-            return Some(Slot::Free);
-        }
-        let place = bytes[PLACE_AT];
-        if same(bytes, &withdrawal(place)) {
-            return Some(Slot::Withdrawal(place));
-        }
-        let record = read_record(bytes)?;
-        Some(Slot::Record(record))
-    }
-
-    /// The record that the slot holds, if it holds one.
-    fn into_record(self) -> Option<Record>
-        ensures { model_of result ≡ record_of (told (Some self)) }
-    {
-        match self {
-            Slot::Record(found) => Some(found),
-            Slot::Free | Slot::Withdrawal(_) => None,
-        }
+        let bytes: &[u8; SLOT] = bytes.try_into().ok()?;
+        read_slot(bytes)
     }
 }
 
 /// The slot of a withdrawal.
+#[tactic(auto, unfolding(crate::specs::Slot::withdrawal))]
 pub fn withdrawal(place: u8) -> [u8; SLOT]
     ensures answer { result ≡ withdrawn place }
 {
@@ -95,47 +78,53 @@ pub fn withdrawal(place: u8) -> [u8; SLOT]
     bytes
 }
 
+// Methods with names and no `From`: the name says which bytes, as std's `to_be_bytes`.
 impl Record {
     /// The record that a slot of these bytes holds; nothing where it holds none.
     pub fn from_slot(bytes: &[u8]) -> Option<Record>
-        ensures answer { model_of result ≡ record_of (content_of bytes.now) }
+        ensures answer { result ≡ record_of (content_of bytes.now) }
     {
         let slot = Slot::from_bytes(bytes)?;
-        slot.into_record()
+        match slot {
+            Slot::Record(found) => Some(found),
+            Slot::Free | Slot::Withdrawal(_) => None,
+        }
     }
 
     /// The slot of the record.
     pub fn to_slot(&self) -> [u8; SLOT]
-        ensures answer { result ≡ slot (model self.now) }
+        ensures answer { result ≡ slot self.now }
+        ensures within { is_within self.now ≡ true }
     {
         let mut slot = [0; SLOT];
-        put(&mut slot, 0, &header_of(self));
-        put(&mut slot, RP_ID_AT, &self.rp_id.bytes);
-        put(&mut slot, USER_ID_AT, &self.user_id.bytes);
-        put(&mut slot, NAME_AT, &self.name.bytes);
-        put(&mut slot, DISPLAY_NAME_AT, &self.display_name.bytes);
+        put(&mut slot, 0, &self.header());
+        put(&mut slot, RP_ID_AT, self.rp_id.as_slice());
+        put(&mut slot, USER_ID_AT, self.user_id.as_slice());
+        put(&mut slot, NAME_AT, self.name.as_slice());
+        put(&mut slot, DISPLAY_NAME_AT, self.display_name.as_slice());
         put(&mut slot, CREDENTIAL_ID_AT, &self.credential_id);
         put(&mut slot, X_AT, &self.x);
         put(&mut slot, Y_AT, &self.y);
         slot
     }
-}
 
-/// The first 16 bytes of a record's slot.
-fn header_of(of: &Record) -> [u8; 16]
-    ensures { result ≡ header (model of.now) }
-{
-    let mut bytes = [0; 16];
-    bytes[0] = RECORD;
-    bytes[PROTECT_AT] = number_of(of.cred_protect);
-    bytes[RP_ID_LEN_AT] = of.rp_id.len as u8;
-    bytes[USER_ID_LEN_AT] = of.user_id.len as u8;
-    bytes[NAME_LEN_AT] = of.name.len as u8;
-    bytes[DISPLAY_NAME_LEN_AT] = of.display_name.len as u8;
-    bytes
+    /// The first 16 bytes of the slot.
+    fn header(&self) -> [u8; 16]
+        ensures { result ≡ header self.now }
+    {
+        let mut bytes = [0; 16];
+        bytes[0] = RECORD;
+        bytes[PROTECT_AT] = u8::from(self.cred_protect);
+        bytes[RP_ID_LEN_AT] = self.rp_id.len() as u8;
+        bytes[USER_ID_LEN_AT] = self.user_id.len() as u8;
+        bytes[NAME_LEN_AT] = self.name.len() as u8;
+        bytes[DISPLAY_NAME_LEN_AT] = self.display_name.len() as u8;
+        bytes
+    }
 }
 
 /// Writes a part of a slot.
+// One line round `copy_from_slice`, since eight fields are written so.
 fn put(into: &mut [u8; SLOT], at: usize, bytes: &[u8])
     requires { at + length bytes.now ≤ 512 }
     ensures { into.new ≡ take at into.old ++ (bytes.now ++ drop (at + length bytes.now) into.old) }
@@ -143,24 +132,34 @@ fn put(into: &mut [u8; SLOT], at: usize, bytes: &[u8])
     into[at..at + bytes.len()].copy_from_slice(bytes);
 }
 
+/// What a slot of these bytes holds; nothing where they are no slot.
+#[tactic(auto, unfolding(crate::specs::Slot::content_of, crate::specs::Slot::free))]
+fn read_slot(bytes: &[u8; SLOT]) -> Option<Slot>
+    ensures { told result ≡ content_of bytes.now }
+{
+    if same(bytes, &[0; SLOT]) {
+        return Some(Slot::Free);
+    }
+    let place = bytes[PLACE_AT];
+    if same(bytes, &withdrawal(place)) {
+        return Some(Slot::Withdrawal(place));
+    }
+    let record = read_record(bytes)?;
+    Some(Slot::Record(record))
+}
+
 /// The record of a slot, if the bytes are just its slot.
-fn read_record(bytes: &[u8]) -> Option<Record>
-    requires { length bytes.now ≡ 512 }
+#[tactic(auto, unfolding(crate::specs::Slot::record_in))]
+fn read_record(bytes: &[u8; SLOT]) -> Option<Record>
     ensures { record_told result ≡ record_in bytes.now (fields_in bytes.now) }
 {
-    let Ok(record) = Record::new(fields_in(bytes)) else {
-        return None;
-    };
-    if same(bytes, &record.to_slot()) {
-        Some(record)
-    } else {
-        None
-    }
+    let record = Record::new(fields_in(bytes)).ok()?;
+    same(bytes, &record.to_slot()).then_some(record)
 }
 
 /// The fields that lie in a slot.
-fn fields_in(bytes: &[u8]) -> Fields<'_>
-    requires { length bytes.now ≡ 512 }
+#[tactic(auto, unfolding(crate::specs::Slot::fields_in))]
+fn fields_in(bytes: &[u8; SLOT]) -> Fields<'_>
     ensures { given result ≡ fields_in bytes.now }
 {
     Fields {
@@ -181,9 +180,5 @@ fn part(bytes: &[u8], at: usize, size: usize) -> &[u8]
     ensures { result.now ≡ piece at size bytes.now }
 {
     let rest = &bytes[at..];
-    if size < rest.len() {
-        &rest[0..size]
-    } else {
-        rest
-    }
+    &rest[..size.min(rest.len())]
 }

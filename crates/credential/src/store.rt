@@ -1,14 +1,21 @@
 //! What a store of records means: a list of records and a capacity.
 
-ghost use Rattle.std.specs.Prelude.{◌≡◌, ℕ, ◌≤◌, false, List, [], ◌∷◌, ◌++◌, length, if◌then◌else◌, nat_lt, slice_index_or};
+ghost use Rattle.std.specs.Prelude.{◌≡◌, ℕ, ◌≤◌, false, List, [], ◌∷◌, ◌++◌, length, is_ok, if◌then◌else◌, nat_lt, slice_index_or};
 ghost use Rattle.std.specs.List.{remove};
-ghost use Rattle.credential.specs.Model.{model};
 ghost use Rattle.credential.specs.Rec.{Rec};
 
 use crate::record::Record;
 
+/// The refusal: the store has no free place.
+#[derive(Clone, Copy, Debug, PartialEq, Eq)]
+pub struct Full;
+
+/// The refusal: there is no record at the place.
+#[derive(Clone, Copy, Debug, PartialEq, Eq)]
+pub struct NoRecord;
+
 /// A list of records that is never longer than a capacity that never changes.
-/// A call that says no leaves the store as it was, its bytes too.
+/// A call that is refused leaves the store as it was, its bytes too.
 pub trait Store {
     /// The records, in their order.
     ghost records: { Self → List Rec };
@@ -33,27 +40,27 @@ pub trait Store {
     fn capacity(&self) -> usize
         ensures answer { result ≡ room self.now };
 
-    /// Copies the record at a place; no where there is none.
-    fn read(&self, place: usize, into: &mut Record) -> bool
-        ensures answer { result ≡ nat_lt place (length (records self.now)) }
-        ensures found { model into.new ≡ slice_index_or (records self.now) place (model into.old) }
-        ensures refused { result ≡ false → into.new ≡ into.old };
+    /// Copies the record at a place, if there is one.
+    fn read(&self, place: usize, into: &mut Record) -> Result<(), NoRecord>
+        ensures answer { is_ok result ≡ nat_lt place (length (records self.now)) }
+        ensures found { into.new ≡ slice_index_or (records self.now) place into.old }
+        ensures refused { is_ok result ≡ false → into.new ≡ into.old };
 
-    /// Puts a record at the end; no where the store is full.
-    fn add(&mut self, new: &Record) -> bool
-        ensures answer { result ≡ nat_lt (length (records self.old)) (room self.old) }
-        ensures list { records self.new ≡ (if result then records self.old ++ model new.now ∷ [] else records self.old) }
+    /// Puts a record at the end, if the store is not full.
+    fn add(&mut self, new: &Record) -> Result<(), Full>
+        ensures answer { is_ok result ≡ nat_lt (length (records self.old)) (room self.old) }
+        ensures list { records self.new ≡ (if is_ok result then records self.old ++ new.now ∷ [] else records self.old) }
         ensures capacity { room self.new ≡ room self.old }
-        ensures bytes { image self.new ≡ (if result then extended (image self.old) (model new.now) else image self.old) }
-        ensures refused { result ≡ false → self.new ≡ self.old };
+        ensures bytes { image self.new ≡ (if is_ok result then extended (image self.old) new.now else image self.old) }
+        ensures refused { is_ok result ≡ false → self.new ≡ self.old };
 
-    /// Removes the record at a place and closes the gap; no where there is none.
-    fn remove(&mut self, place: usize) -> bool
-        ensures answer { result ≡ nat_lt place (length (records self.old)) }
-        ensures list { records self.new ≡ (if result then remove (records self.old) place else records self.old) }
+    /// Removes the record at a place and closes the gap, if there is one.
+    fn remove(&mut self, place: usize) -> Result<(), NoRecord>
+        ensures answer { is_ok result ≡ nat_lt place (length (records self.old)) }
+        ensures list { records self.new ≡ (if is_ok result then remove (records self.old) place else records self.old) }
         ensures capacity { room self.new ≡ room self.old }
-        ensures bytes { image self.new ≡ (if result then reduced (image self.old) place else image self.old) }
-        ensures refused { result ≡ false → self.new ≡ self.old };
+        ensures bytes { image self.new ≡ (if is_ok result then reduced (image self.old) place else image self.old) }
+        ensures refused { is_ok result ≡ false → self.new ≡ self.old };
 
     ghost bounded: { (s : Self) → length (records s) ≤ room s };
 

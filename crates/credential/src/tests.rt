@@ -30,11 +30,7 @@ const PLAIN: Sizes = Sizes {
 static BYTES: [u8; 129] = [7; 129];
 
 fn bytes(size: usize) -> &'static [u8] {
-    if size < BYTES.len() {
-        &BYTES[0..size]
-    } else {
-        &BYTES
-    }
+    &BYTES[..size.min(BYTES.len())]
 }
 
 fn made(sizes: Sizes) -> Result<Record, OutsideLimits> {
@@ -82,22 +78,8 @@ fn with_protect(protect: u8) -> Sizes {
 
 #[test]
 fn limits_of_texts(rt: HostRuntime) {
-    assert!(rt;
-        only_between([
-            with_rp_id(0),
-            with_rp_id(1),
-            with_rp_id(128),
-            with_rp_id(129),
-        ])
-    );
-    assert!(rt;
-        only_between([
-            with_user_id(0),
-            with_user_id(1),
-            with_user_id(64),
-            with_user_id(65),
-        ])
-    );
+    assert!(rt; only_between([0, 1, 128, 129].map(with_rp_id)));
+    assert!(rt; only_between([0, 1, 64, 65].map(with_user_id)));
     assert!(rt;
         only_between([
             with_names(65, 0),
@@ -110,14 +92,7 @@ fn limits_of_texts(rt: HostRuntime) {
 
 #[test]
 fn limits_of_numbers_and_keys(rt: HostRuntime) {
-    assert!(rt;
-        only_between([
-            with_protect(0),
-            with_protect(1),
-            with_protect(3),
-            with_protect(4),
-        ])
-    );
+    assert!(rt; only_between([0, 1, 3, 4].map(with_protect)));
     assert!(rt; only_between([with_keys(31, 32, 32), PLAIN, PLAIN, with_keys(33, 32, 32)]));
     assert!(rt; only_between([with_keys(32, 31, 32), PLAIN, PLAIN, with_keys(32, 33, 32)]));
     assert!(rt; only_between([with_keys(32, 32, 31), PLAIN, PLAIN, with_keys(32, 32, 33)]));
@@ -125,23 +100,26 @@ fn limits_of_numbers_and_keys(rt: HostRuntime) {
 
 /// Whether the byte of a plain record's slot must be zero.
 fn must_be_zero(at: usize) -> bool {
-    match at {
-        6..=15 | 27..=143 | 147..=207 | 208..=271 | 277..=335 | 432..=511 => true,
-        _ => false,
+    matches!(at, 6..=15 | 27..=143 | 147..=207 | 208..=271 | 277..=335 | 432..=511)
+}
+
+/// Whether a one at this offset makes the bytes no slot.
+fn is_spoiled(mut slot: [u8; SLOT], at: usize) -> bool {
+    if let Some(byte) = slot.get_mut(at) {
+        *byte = 1;
     }
+    Slot::from_bytes(&slot).is_none()
 }
 
 #[test]
 fn zeros_of_a_record(rt: HostRuntime) -> Result<(), Fail> {
     let slot = made(PLAIN)?.to_slot();
     assert!(rt; Slot::from_bytes(&slot).is_some());
-    for k in 0..SLOT {
-        let mut other = slot;
-        if must_be_zero(k) {
-            other[k] = 1;
-            assert!(rt; Slot::from_bytes(&other).is_none());
-        }
-    }
+    assert!(rt;
+        (0..SLOT)
+            .filter(|&k| must_be_zero(k))
+            .all(|k| is_spoiled(slot, k))
+    );
     Ok(())
 }
 
@@ -149,15 +127,7 @@ fn zeros_of_a_record(rt: HostRuntime) -> Result<(), Fail> {
 fn zeros_of_a_withdrawal_and_of_nothing(rt: HostRuntime) {
     let gone = withdrawal(9);
     assert!(rt; Slot::from_bytes(&gone).is_some() && Slot::from_bytes(&[0; SLOT]).is_some());
-    for k in 1..SLOT {
-        let mut free = [0; SLOT];
-        free[k] = 1;
-        assert!(rt; Slot::from_bytes(&free).is_none());
-        let mut other = gone;
-        if k != 6 {
-            other[k] = 1;
-            assert!(rt; Slot::from_bytes(&other).is_none());
-        }
-    }
+    assert!(rt; (1..SLOT).all(|k| is_spoiled([0; SLOT], k)));
+    assert!(rt; (1..SLOT).filter(|&k| k != 6).all(|k| is_spoiled(gone, k)));
     assert!(rt; Slot::from_bytes(&gone[0..511]).is_none());
 }

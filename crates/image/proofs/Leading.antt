@@ -11,7 +11,7 @@ use Rattle.credential.specs.Slot.{Entry, put, gone, Content, empty, holds, free,
 use Rattle.credential.proofs.Slots.{content-free, content-written, slot-content}
 use Rattle.image.specs.declared.kind.Kind.{Kind}
 use Rattle.image.specs.declared.kind.Kind.TheVariants.{Table, Log}
-use Rattle.image.specs.Opening.{is_allowed, counted, before, by_slot, unused, entries, counts}
+use Rattle.image.specs.Opening.{is_allowed, counted, before, by_slot, unused, entries, at_slot, counts}
 use Rattle.image.specs.Replay.{after, replay}
 use Rattle.image.specs.Laws.{Leads, done, came, went}
 use Rattle.image.proofs.Led.{Within, within_push, within_removed}
@@ -149,7 +149,7 @@ leads_count kind capacity {rs} (went {place = place} {es = es} log lt on) =
     let n : length rs - 1 ≡ length (after rs (gone place)) = omega (arith, length-remove rs place lt) in
     ap (λ n. counted_all n es) n ∙ leads_count kind capacity on
 
-counts_at : (kind : Kind) (capacity : ℕ) (ss : List (List ℕ)) (r : Result (List Entry) ℕ) → entries kind capacity 0 0 ss ≡ r → counts r ≡ tally 0 0 r
+counts_at : (kind : Kind) (capacity : ℕ) (ss : List (List ℕ)) (r : Result (List Entry) ℕ) → entries kind capacity 0 0 ss ≡ r → counts (at_slot r) ≡ tally 0 0 (at_slot r)
 counts_at kind capacity ss (Ok es) h =
     let count = leads_count kind capacity (entries_sound kind capacity 0 ss [] es h).leads in
     let used : 0 + length es ≡ length es = omega arith in
@@ -157,7 +157,7 @@ counts_at kind capacity ss (Ok es) h =
 counts_at kind capacity ss (Err bad) h = refl
 
 -- what was counted slot by slot is the number of used slots and the length of the list
-pub counts-tally : (kind : Kind) (capacity : ℕ) (ss : List (List ℕ)) → counts (entries kind capacity 0 0 ss) ≡ tally 0 0 (entries kind capacity 0 0 ss)
+pub counts-tally : (kind : Kind) (capacity : ℕ) (ss : List (List ℕ)) → counts (at_slot (entries kind capacity 0 0 ss)) ≡ tally 0 0 (at_slot (entries kind capacity 0 0 ss))
 counts-tally kind capacity ss = counts_at kind capacity ss (entries kind capacity 0 0 ss) refl
 
 -- entries that lead on from where others led

@@ -1,5 +1,6 @@
 pub mod Accepted
 pub mod Cells
+pub mod Chunks
 pub mod Imaged
 pub mod Leading
 pub mod Led

@@ -1,15 +1,13 @@
 -- The sizes of images, and their slots.
-use Rattle.std.proofs.Common.{◌≡◌, ℕ, ◌*◌, ◌/◌, ◌≤◌, true, false, List, length, Ok, Err, Result, sym, refl, ap, ◌∙◌, arith}
+use Rattle.std.proofs.Common.{◌≡◌, ℕ, ◌*◌, ◌/◌, ◌≤◌, true, false, List, length, Err, sym, ap, ◌∙◌, arith}
 use Rattle.std.proofs.lemmas.Bool.Decides.{nat_tests}
-use Rattle.credential.specs.Slot.{Entry}
 use Rattle.image.specs.declared.image.Image.{Image}
 use Rattle.image.specs.declared.kind.Kind.{Kind}
-use Rattle.image.specs.declared.opening.Refusal.{Refusal}
-use Rattle.image.specs.declared.opening.Refusal.TheVariants.{Size, Slot}
+use Rattle.image.specs.declared.opening.Refusal.TheVariants.{Size}
 use Rattle.image.specs.Cut.{slots_of, bytes_of, cells}
 use Rattle.image.specs.Kinds.{fewest, room, fits}
-use Rattle.image.specs.Opening.{entries, at_slot, opened, counts}
-use Rattle.image.proofs.Cells.{length-cells, cells_slots}
+use Rattle.image.specs.Opening.{entries, at_slot, opened}
+use Rattle.image.proofs.Cells.{length_slots}
 
 -- what a size that fits says
 pub record Sized (kind : Kind) (im : List ℕ) : Type 0 where
@@ -37,22 +35,4 @@ opened_unfitting kind im h = rw h
 -- opening an image that is held
 pub opened-image : (kind : Kind) (im : Image) → fits kind (bytes_of im) ≡ true → opened kind (bytes_of im) ≡ at_slot (entries kind (room kind (length (cells im))) 0 0 (cells im))
 opened-image kind im h =
-    let n : length (bytes_of im) / 512 ≡ length (cells im) = omega (arith, im.sized, length-cells im) in
-    opened_fitting kind (bytes_of im) h
-    ∙ ap (λ n. at_slot (entries kind (room kind n) 0 0 (slots_of (bytes_of im)))) n
-    ∙ ap (λ ss. at_slot (entries kind (room kind (length (cells im))) 0 0 ss)) (cells_slots im)
-
--- the number of a bad slot as a refusal
-abbrev pub refusing : Result (ℕ × ℕ) ℕ → Result (ℕ × ℕ) Refusal
-refusing (Ok p) = Ok p
-refusing (Err k) = Err (Slot k)
-
-pub counts_at-slot : (r : Result (List Entry) ℕ) → refusing (counts r) ≡ counts (at_slot r)
-counts_at-slot (Ok es) = refl
-counts_at-slot (Err k) = refl
-
--- what was counted of the slots of an image
-pub answer_is :
-    (kind : Kind) (im : Image) (r : Result (ℕ × ℕ) ℕ) → fits kind (bytes_of im) ≡ true → r ≡ counts (entries kind (room kind (length (cells im))) 0 0 (cells im))
-    → refusing r ≡ counts (opened kind (bytes_of im))
-answer_is kind im r h e = ap refusing e ∙ counts_at-slot _ ∙ ap counts (sym (opened-image kind im h))
+    opened_fitting kind (bytes_of im) h ∙ ap (λ n. at_slot (entries kind (room kind n) 0 0 (cells im))) (sym (length_slots (bytes_of im)))

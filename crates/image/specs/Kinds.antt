@@ -1,5 +1,5 @@
 -- The two kinds of store, and their sizes.
-use Rattle.std.specs.Prelude.{ℕ, ◌-◌, ◌/◌, ◌%◌, Bool, ◌&&◌, List, length, ◌==◌}
+use Rattle.std.specs.Prelude.{◌≡◌, ℕ, ◌-◌, ◌/◌, ◌%◌, ◌≤◌, Bool, ◌&&◌, List, length, ◌==◌}
 use Rattle.credential.specs.Rec.{between}
 use Rattle.image.specs.declared.kind.Kind.{Kind}
 use Rattle.image.specs.declared.kind.Kind.TheVariants.{Table, Log}
@@ -21,3 +21,8 @@ capacity_of kind im = room kind (length im / 512)
 -- whole slots, and a number of them that fits the kind
 unfoldable pub fits : Kind → List ℕ → Bool
 fits kind im = length im % 512 == 0 && between (fewest kind) 64 (length im / 512)
+
+-- whole slots of 512 bytes, and no more than 64
+pub record IsWhole (im : List ℕ) : Type 0 where
+  pub whole : length im % 512 ≡ 0
+  pub few : length im / 512 ≤ 64

@@ -16,5 +16,5 @@ told kind image (Err e) = Err e.why
 
 -- the image of a store that was opened, or that is given back
 abbrev pub held : {S : Type 0} → (S → Image) → Result S Refused → Vec ℕ Global
-held image (Ok s) = (image s).bytes
+held image (Ok s) = image s
 held image (Err e) = e.bytes

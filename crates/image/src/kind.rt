@@ -37,6 +37,7 @@ impl Kind {
     }
 
     /// Whether an image has whole slots, and as many as a store of the kind.
+    #[tactic(auto, using(std::proofs::lemmas::Bool::Decides::nat_tests), unfolding(crate::specs::Kinds::fits))]
     pub(crate) fn fits(self, bytes: &[u8]) -> bool
         ensures { result ≡ fits self bytes.now }
     {

@@ -5,8 +5,9 @@
 mod image;
 mod kind;
 mod opening;
-mod slots;
+mod store;
 
 pub use image::Image;
 pub use kind::{Kind, MOST};
-pub use opening::{Opened, Refusal, Refused, open};
+pub use opening::{Counts, Opened, Refusal, Refused, open};
+pub use store::ImageStore;

@@ -4,9 +4,9 @@ ghost use Rattle.std.specs.Prelude.{◌≡◌, length, drop};
 ghost use Rattle.credential.specs.Slot.{content_of, free};
 ghost use Rattle.image.specs.Cut.{cells};
 ghost use Rattle.image.specs.Kinds.{room};
-ghost use Rattle.image.specs.Opening.{opened, entries, unused, counts, code, place_of};
+ghost use Rattle.image.specs.Opening.{opened, entries, unused, at_slot, counts, code, place_of};
 ghost use Rattle.image.specs.Laws.{Exactly, First};
-ghost use Rattle.image.specs.Scan.{told, held, verdict_of, first_used};
+ghost use Rattle.image.specs.Scan.{told, held, tallied, verdict_of, first_used};
 
 use crate::image::Image;
 use crate::kind::Kind;
@@ -22,6 +22,7 @@ pub enum Refusal {
     Slot(usize),
 }
 
+// Numbers: docs/STATUS.md fixes both, and 0 for no place.
 impl Refusal {
     /// The status number of the refusal.
     pub fn status(&self) -> u8
@@ -51,15 +52,22 @@ pub struct Refused {
     pub why: Refusal,
 }
 
-/// An accepted image: how many slots are used, and how many records they list.
+/// How many slots are used, from the first on, and how many records they list.
+#[derive(Clone, Copy, Debug, PartialEq, Eq)]
+pub struct Counts {
+    pub used: usize,
+    pub listed: usize,
+}
+
+/// An accepted image, and its counts.
 #[derive(Drop)]
 pub struct Opened {
     pub image: Image,
-    pub used: usize,
-    pub count: usize,
+    pub counts: Counts,
 }
 
 /// Opens an image as a store of a kind. Nothing is written.
+#[tactic(auto, using(crate::proofs::Accepted::exactly, crate::proofs::Prefixes::first))]
 pub fn open(kind: Kind, bytes: Vec<u8>) -> Result<Opened, Refused>
     ensures answer { told result ≡ counts (opened kind bytes.items) }
     ensures image { held result ≡ bytes }
@@ -72,57 +80,58 @@ pub fn open(kind: Kind, bytes: Vec<u8>) -> Result<Opened, Refused>
             why: Refusal::Size,
         });
     }
-    let slots = bytes.len() / SLOT;
-    let image = Image { bytes, slots };
+    let image = Image { bytes };
     match scan(kind, &image) {
-        Ok((used, count)) => Ok(Opened { image, used, count }),
-        Err(k) => Err(Refused {
+        Ok(counts) => Ok(Opened { image, counts }),
+        Err(why) => Err(Refused {
             bytes: image.into_bytes(),
-            why: Refusal::Slot(k),
+            why,
         }),
     }
 }
 
-/// How many slots are used and how many records they list, or the first slot that breaks a rule.
-fn scan(kind: Kind, image: &Image) -> Result<(usize, usize), usize>
-    ensures { result ≡ counts (entries kind (room kind (length (cells image.now))) 0 0 (cells image.now)) }
+/// The counts of an image, or the first slot that breaks a rule.
+fn scan(kind: Kind, image: &Image) -> Result<Counts, Refusal>
+    ensures { tallied result ≡ counts (at_slot (entries kind (room kind (length (cells image.now))) 0 0 (cells image.now))) }
 {
-    let slots = image.len();
-    let capacity = kind.capacity(slots);
-    let mut count = 0;
-    for k in 0..slots {
-        match judge(kind, capacity, count, image.slot(k)) {
-            Verdict::Bad => return Err(k),
-            Verdict::Free => {
-                return match first_used(image, k + 1) {
-                    Some(bad) => Err(bad),
-                    None => Ok((k, count)),
-                };
+    let capacity = kind.capacity(image.len());
+    let mut listed = 0;
+    for (k, slot) in image.slots().enumerate() {
+        match judge(kind, capacity, listed, k, slot)? {
+            Some(next) => listed = next,
+            None => {
+                if let Some(bad) = first_used(image, k + 1) {
+                    return Err(Refusal::Slot(bad));
+                }
+                return Ok(Counts { used: k, listed });
             }
-            Verdict::Used(next) => count = next,
         }
     }
-    Ok((slots, count))
+    Ok(Counts {
+        used: image.len(),
+        listed,
+    })
 }
 
-/// Whether a slot breaks a rule, is free, or is used, with so many records listed after it.
-enum Verdict {
-    Bad,
-    Free,
-    Used(usize),
-}
-
-/// What a slot is where so many records are listed before it.
-fn judge(kind: Kind, capacity: usize, count: usize, slot: &[u8]) -> Verdict
-    ensures { result ≡ verdict_of kind capacity count (content_of slot.now) }
+/// What slot `k` is where so many records are listed before it: refused where it breaks a rule,
+/// nothing where it is free, and otherwise how many records are listed after it.
+// Five parameters: three of them change with each slot, so a struct of them would be made anew at every call.
+fn judge(
+    kind: Kind,
+    capacity: usize,
+    listed: usize,
+    k: usize,
+    slot: &[u8],
+) -> Result<Option<usize>, Refusal>
+    ensures { result ≡ verdict_of kind capacity listed k (content_of slot.now) }
 {
     match Slot::from_bytes(slot) {
-        Some(Slot::Free) => Verdict::Free,
-        Some(Slot::Record(_)) if count < capacity => Verdict::Used(count + 1),
-        Some(Slot::Withdrawal(place)) if kind == Kind::Log && (place as usize) < count => {
-            Verdict::Used(count - 1)
+        Some(Slot::Free) => Ok(None),
+        Some(Slot::Record(_)) if listed < capacity => Ok(Some(listed + 1)),
+        Some(Slot::Withdrawal(place)) if kind == Kind::Log && usize::from(place) < listed => {
+            Ok(Some(listed - 1))
         }
-        _ => Verdict::Bad,
+        _ => Err(Refusal::Slot(k)),
     }
 }
 
@@ -130,10 +139,9 @@ fn judge(kind: Kind, capacity: usize, count: usize, slot: &[u8]) -> Verdict
 fn first_used(image: &Image, from: usize) -> Option<usize>
     ensures { first_used result ≡ unused from (drop from (cells image.now)) }
 {
-    for k in from..image.len() {
-        if !same(image.slot(k), &[0; SLOT]) {
-            return Some(k);
-        }
-    }
-    None
+    let behind = image
+        .slots()
+        .skip(from)
+        .position(|slot| !same(slot, &[0; SLOT]))?;
+    Some(from + behind)
 }

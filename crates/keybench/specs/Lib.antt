@@ -1,10 +1,1 @@
-pub mod Answered
-pub mod Asked
-pub mod Decimal
-pub mod Hex
-pub mod Judged
-pub mod Line
-pub mod Outlined
-pub mod Shown
-pub mod Worded
 pub mod Replied

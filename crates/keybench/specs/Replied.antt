@@ -1,13 +1,10 @@
 -- What is printed in answer to a line.
-use Rattle.std.specs.Prelude.{◌≡◌, ℕ, Bool, true, false, ◌⊎◌, List, [], ◌∷◌, ◌++◌, Ok, Err, string_bytes, codes, Result, String}
-use Rattle.sha256.specs.Sha256.{sha256}
-use Rattle.sha256.specs.Hmac as mac
-use Rattle.keybench.specs.declared.wrong.Wrong.{Wrong}
-use Rattle.keybench.specs.declared.wrong.Wrong.TheVariants.{Memory}
-use Rattle.keybench.specs.Asked.{Ask, digest, hmac, tag, read, explain, help}
-use Rattle.keybench.specs.Judged.{judged}
-use Rattle.keybench.specs.Shown.{bytes_line, verdict_line, Explained}
-use Rattle.keybench.specs.Worded.{error_line}
+use Rattle.std.specs.Prelude.{◌≡◌, ℕ, Bool, true, false, ◌⊎◌, List, [], ◌++◌, Ok, Err, string_bytes, codes, Result, String}
+use Rattle.bench.specs.declared.wrong.Wrong.{Wrong}
+use Rattle.bench.specs.declared.wrong.Wrong.TheVariants.{Memory}
+use Rattle.bench.specs.Asked.{Ask}
+use Rattle.bench.specs.Replied as bench
+use Rattle.bench.specs.Worded.{error_line}
 
 -- the lines of help
 unfoldable pub help_lines : List ℕ
@@ -21,12 +18,7 @@ help_lines =
 
 -- what a step prints
 abbrev pub Replied : Ask → List ℕ → Type 0
-Replied (digest m) shown = shown ≡ bytes_line (codes "digest") (sha256 m)
-Replied (hmac k m) shown = shown ≡ bytes_line (codes "hmac") (mac.hmac k m)
-Replied (tag t s p) shown = shown ≡ bytes_line (codes "tag") (mac.tag t (s ∷ p))
-Replied (read m) shown = shown ≡ verdict_line (judged m)
-Replied (explain m) shown = Explained m shown
-Replied help shown = shown ≡ help_lines
+Replied ask shown = bench.Replied help_lines ask shown
 
 -- what the step that was asked for prints, or the line of what is wrong
 abbrev pub Due : Result Ask Wrong → List ℕ → Type 0

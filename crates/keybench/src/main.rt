@@ -2,33 +2,14 @@
 
 #![tactic(auto)]
 
-mod bench;
-mod decimal;
-mod hex;
-mod line;
-mod outline;
-mod show;
-#[cfg(test)]
-mod tests;
-mod verdict;
-mod wrong;
+mod answering;
 
+use answering::Keybench;
 use std::io;
-use std::io::{BufRead, BufReader, Write};
+use std::io::BufReader;
 
-/// Each line is answered, and the answer flushed, before the next line is asked for.
 fn main(rt: HostRuntime) -> io::Result<()> {
     let heap = rt.alloc();
     let mut input = BufReader::new(heap, rt.stdin())?;
-    let mut output = rt.stdout();
-    for _ in 0..u64::MAX {
-        let mut line = Vec::new(heap);
-        if input.read_until(b'\n', &mut line)? == 0 {
-            break;
-        }
-        let text = bench::answer(heap, &line)?;
-        output.write_all(text.as_bytes())?;
-        output.flush()?;
-    }
-    Ok(())
+    bench::serve(heap, &mut Keybench, &mut input, &mut rt.stdout())
 }

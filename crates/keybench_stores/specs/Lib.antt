@@ -1,4 +1,1 @@
-pub mod Judged
-pub mod Outlined
-pub mod Shown
 pub mod Replied

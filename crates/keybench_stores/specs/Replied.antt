@@ -1,16 +1,14 @@
 -- What is printed in answer to a line, and the store that is open after it.
-use Rattle.std.specs.Prelude.{◌≡◌, ℕ, Bool, true, false, ◌⊎◌, List, [], ◌∷◌, ◌++◌, Ok, Err, string_bytes, codes, Result, String}
-use Rattle.lines.specs.Hex.{bytes_line}
-use Rattle.sha256.specs.Sha256.{sha256}
-use Rattle.sha256.specs.Hmac as mac
-use Rattle.steps.specs.declared.wrong.Wrong.{Wrong}
-use Rattle.steps.specs.declared.wrong.Wrong.TheVariants.{Memory}
-use Rattle.steps.specs.Asked.{Ask, digest, hmac, tag, read, explain, blank, opening, add, remove, list, image, help}
-use Rattle.steps.specs.Worded.{error_line}
+use Rattle.std.specs.Prelude.{◌≡◌, ℕ, Bool, true, false, ◌⊎◌, List, [], ◌++◌, Ok, Err, string_bytes, codes, Result, String}
+use Rattle.bench.specs.declared.wrong.Wrong.{Wrong}
+use Rattle.bench.specs.declared.wrong.Wrong.TheVariants.{Memory}
+use Rattle.bench.specs.Asked as plain
+use Rattle.bench.specs.Replied as bench
+use Rattle.bench.specs.Worded.{error_line}
+use Rattle.steps.specs.Asked as store
+use Rattle.steps.specs.Asked.{Ask, StoreAsk, plain_ask, store_ask}
 use Rattle.storebench.specs.Printed.{open_text, add_text, remove_text, listed, image_text}
 use Rattle.storebench.specs.State.{State, blank_image, after_open, after_add, after_remove}
-use Rattle.keybench_stores.specs.Judged.{judged}
-use Rattle.keybench_stores.specs.Shown.{verdict_line, Explained}
 
 -- the lines of help
 unfoldable pub help_lines : List ℕ
@@ -29,40 +27,38 @@ help_lines =
     ++ (codes "image              its image\n"
     ++ codes "help               these lines\n")))))))))))
 
--- an answer of an explanation
-abbrev pub Explains : List ℕ → Result (List ℕ) Wrong → Type 0
-Explains m (Ok shown) = Explained m shown
-Explains m (Err w) = ⊥
+-- the answer of a step that every bench has: what it prints
+abbrev pub Tells : plain.Ask → Result (List ℕ) Wrong → Type 0
+Tells ask (Ok shown) = bench.Replied help_lines ask shown
+Tells ask (Err w) = ⊥
 
--- what a step answers, where a store may be open: a text, or what is wrong
+-- the answer of a step over a store, where a store may be open: a text, or what is wrong
+abbrev pub told : State → StoreAsk → Result (List ℕ) Wrong
+told before (store.blank kind slots) = Ok (open_text kind (blank_image slots))
+told before (store.opening kind im) = Ok (open_text kind im)
+told before (store.add r) = add_text before r
+told before (store.remove place) = remove_text before place
+told before store.list = listed before
+told before store.image = image_text before
+
+-- what a step answers, where a store may be open
 abbrev pub Replied : State → Ask → Result (List ℕ) Wrong → Type 0
-Replied before (digest m) answer = answer ≡ Ok (bytes_line (codes "digest") (sha256 m))
-Replied before (hmac k m) answer = answer ≡ Ok (bytes_line (codes "hmac") (mac.hmac k m))
-Replied before (tag t s p) answer = answer ≡ Ok (bytes_line (codes "tag") (mac.tag t (s ∷ p)))
-Replied before (read m) answer = answer ≡ Ok (verdict_line (judged m))
-Replied before (explain m) answer = Explains m answer
-Replied before (blank kind slots) answer = answer ≡ Ok (open_text kind (blank_image slots))
-Replied before (opening kind im) answer = answer ≡ Ok (open_text kind im)
-Replied before (add r) answer = answer ≡ add_text before r
-Replied before (remove place) answer = answer ≡ remove_text before place
-Replied before list answer = answer ≡ listed before
-Replied before image answer = answer ≡ image_text before
-Replied before help answer = answer ≡ Ok help_lines
+Replied before (plain_ask a) answer = Tells a answer
+Replied before (store_ask a) answer = answer ≡ told before a
+
+-- the state after a step over a store
+abbrev pub moved : State → StoreAsk → State
+moved before (store.blank kind slots) = after_open kind (blank_image slots) before
+moved before (store.opening kind im) = after_open kind im before
+moved before (store.add r) = after_add before r
+moved before (store.remove place) = after_remove before place
+moved before store.list = before
+moved before store.image = before
 
 -- the state after a step
 abbrev pub next : State → Ask → State
-next before (digest m) = before
-next before (hmac k m) = before
-next before (tag t s p) = before
-next before (read m) = before
-next before (explain m) = before
-next before (blank kind slots) = after_open kind (blank_image slots) before
-next before (opening kind im) = after_open kind im before
-next before (add r) = after_add before r
-next before (remove place) = after_remove before place
-next before list = before
-next before image = before
-next before help = before
+next before (plain_ask a) = before
+next before (store_ask a) = moved before a
 
 -- what is due for what a line asks: what the step answers, or what is wrong
 abbrev pub Due : State → Result Ask Wrong → Result (List ℕ) Wrong → Type 0

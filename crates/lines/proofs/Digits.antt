@@ -1,5 +1,5 @@
 -- Facts on decimal text, over plain lists.
-use Rattle.std.proofs.Common.{◌≡◌, ℕ, ◌+◌, ◌-◌, ◌*◌, ◌<◌, ◌≤◌, false, List, [], ◌∷◌, length, get_or, drop, Some, None, refl, arith}
+use Rattle.std.proofs.Common.{◌≡◌, ℕ, ◌+◌, ◌-◌, ◌*◌, ◌<◌, ◌≤◌, true, false, List, [], ◌∷◌, length, get_or, drop, Some, None, refl, ◌∙◌, arith}
 use Rattle.std.proofs.lemmas.List.{drop_more, drop_all}
 use Rattle.std.proofs.lemmas.Bool.{le-leb, lt-leb, cond-false, and_right}
 use Rattle.lines.specs.Decimal.{is_digit, all_digits, total, follows, numbered}
@@ -10,19 +10,22 @@ unfolding total
 total_grows n [] = omega arith
 total_grows n (c ∷ cs) = omega (arith, total_grows (10 * n + (c - 48)) cs)
 
-pub digit_more : (m n d : ℕ) (t : List ℕ) (i : ℕ) → i < length t → 48 ≤ get_or t i 0 → get_or t i 0 ≤ 57 → d ≡ get_or t i 0 - 48 → follows m n (drop i t) ≡ follows m (10 * n + d) (drop (i + 1) t)
+pub digit_more : (m n d : ℕ) (t : List ℕ) (i : ℕ) → i < length t → is_digit (get_or t i 0) ≡ true → d ≡ get_or t i 0 - 48 → follows m n (drop i t) ≡ follows m (10 * n + d) (drop (i + 1) t)
 unfolding follows all_digits total
-digit_more m n d t i h low high e =
-    rw (e, drop_more t i 0 h, le-leb 48 (get_or t i 0) low, le-leb (get_or t i 0) 57 high) refl
+digit_more m n d t i h digit e = rw (e, drop_more t i 0 h, digit) refl
 
 pub digit_none : (m n : ℕ) (t : List ℕ) (i : ℕ) → i < length t → is_digit (get_or t i 0) ≡ false → follows m n (drop i t) ≡ None
 unfolding follows all_digits
 digit_none m n t i h e = rw (drop_more t i 0 h, e) refl
 
-pub digit_past : (m n : ℕ) (cs : List ℕ) → m < n → follows m n cs ≡ None
+digit_past : (m n : ℕ) (cs : List ℕ) → m < n → follows m n cs ≡ None
 unfolding follows
 digit_past m n cs h =
     cond-false _ _ _ (and_right (all_digits cs) _ (lt-leb (total n cs) m (omega (arith, total_grows n cs))))
+
+-- a digit more is too many
+pub digit_over : (m n d : ℕ) (t : List ℕ) (i : ℕ) → i < length t → is_digit (get_or t i 0) ≡ true → d ≡ get_or t i 0 - 48 → m < 10 * n + d → follows m n (drop i t) ≡ None
+digit_over m n d t i h digit e more = digit_more m n d t i h digit e ∙ digit_past m (10 * n + d) _ more
 
 pub digit_all : (m n : ℕ) (t : List ℕ) (i : ℕ) → length t ≤ i → n ≤ m → follows m n (drop i t) ≡ Some n
 unfolding follows all_digits total

@@ -1,7 +1,8 @@
 -- Facts on hex text, over plain lists.
-use Rattle.std.proofs.Common.{◌≡◌, ℕ, suc, ◌+◌, ◌*◌, ◌/◌, ◌%◌, ◌<◌, ◌≤◌, Bool, true, false, ◌&&◌, eqb, List, [], ◌∷◌, ◌++◌, length, get_or, drop, Some, None, codes, Option, sym, refl, ap, ◌∙◌, subst, ⊎_elim, append_assoc, append-nil, arith}
+use Rattle.std.proofs.Common.{◌≡◌, ℕ, zero, suc, ◌+◌, ◌*◌, ◌/◌, ◌%◌, ◌<◌, ◌≤◌, Bool, true, false, ◌&&◌, eqb, List, [], ◌∷◌, ◌++◌, length, get_or, take, drop, lit<, add-zero, drop-drop, Some, None, codes, Option, sym, refl, ap, ◌∙◌, ⊎_elim, append_assoc, append-nil, arith}
+use Rattle.std.specs.Simd.{first_chunks}
 use Rattle.std.specs.Str.{bytes_eq}
-use Rattle.std.proofs.lemmas.List.{drop_more, drop_all}
+use Rattle.std.proofs.lemmas.List.{drop_more, drop_all, get_or-take, get_or-drop}
 use Rattle.std.proofs.lemmas.Slice.Eq.{bytes_eq-Decides}
 use Rattle.std.proofs.lemmas.Bool.{cases_Bool}
 use Rattle.std.proofs.lemmas.Bool.Decides.{nat_tests}
@@ -36,28 +37,6 @@ and_false : (b : Bool) → (b && false) ≡ false
 and_false true = refl
 and_false false = refl
 
-digit_small : (n : ℕ) → n < 16 → digit n < 128
-digit_small n h = grind (arith, nat_tests)
-
-digits_more : (bs : List ℕ) (i : ℕ) → i < length bs → digits (drop i bs) ≡ digit (get_or bs i 0 / 16) ∷ digit (get_or bs i 0 % 16) ∷ digits (drop (i + 1) bs)
-unfolding digits
-digits_more bs i h = rw (drop_more bs i 0 h) refl
-
--- one byte more has been written
-pub written_more : (t t1 t2 e1 e2 bs : List ℕ) (i d1 d2 : ℕ) → i < length bs → get_or bs i 0 < 256 → t1 ≡ t ++ e1 → t2 ≡ t1 ++ e2 → (d1 < 128 → e1 ≡ d1 ∷ []) → (d2 < 128 → e2 ≡ d2 ∷ []) → d1 ≡ digit ((get_or bs i 0 / 16) % 16) → d2 ≡ digit (get_or bs i 0 % 16) → t ++ digits (drop i bs) ≡ digits bs → t2 ++ digits (drop (i + 1) bs) ≡ digits bs
-written_more t t1 t2 e1 e2 bs i d1 d2 h small p q a1 a2 is1 is2 inv =
-    let n1 : (get_or bs i 0 / 16) % 16 ≡ get_or bs i 0 / 16 = omega arith in
-    let b1 : digit ((get_or bs i 0 / 16) % 16) < 128 = digit_small _ (omega arith) in
-    let b2 : digit (get_or bs i 0 % 16) < 128 = digit_small _ (omega arith) in
-    let f1 : e1 ≡ digit (get_or bs i 0 / 16) ∷ [] = a1 (subst (λ n. n < 128) (sym is1) b1) ∙ ap (λ n. n ∷ []) (is1 ∙ ap digit n1) in
-    let f2 : e2 ≡ digit (get_or bs i 0 % 16) ∷ [] = a2 (subst (λ n. n < 128) (sym is2) b2) ∙ ap (λ n. n ∷ []) is2 in
-    rw (q, p, f1, f2, append_assoc, append_assoc) (rw (digits_more bs i h) at inv)
-
--- the end of the digits
-pub written_all : (t bs : List ℕ) (i : ℕ) → length bs ≤ i → t ++ digits (drop i bs) ≡ digits bs → t ≡ digits bs
-unfolding digits
-written_all t bs i h inv = sym (append-nil t) ∙ (rw (drop_all i bs h) at inv)
-
 -- the digits of bytes spell them
 pairs-digits : (bs : List ℕ) → ((i : ℕ) → get_or bs i 0 < 256) → pairs (digits bs) ≡ Some bs
 unfolding pairs digits
@@ -67,15 +46,34 @@ pairs-digits (b ∷ bs) h =
     rw (value-digit (b / 16) (omega arith), value-digit (b % 16) (omega arith), pairs-digits bs (λ i. h (suc i)))
     (ap (λ n. Some (n ∷ bs)) (let e : 16 * (b / 16) + b % 16 ≡ b = omega arith in e))
 
-pub back_some : (bs : List ℕ) → ((i : ℕ) → get_or bs i 0 < 256) → 0 < length bs → decoded (digits bs) ≡ Some bs
+back_some : (bs : List ℕ) → ((i : ℕ) → get_or bs i 0 < 256) → 0 < length bs → decoded (digits bs) ≡ Some bs
 unfolding decoded digits
 back_some [] h n = absurd (omega arith)
 back_some (b ∷ bs) h n = rw (and_false (eqb (digit (b / 16)) 45)) (pairs-digits (b ∷ bs) h)
 
-pub back_none : (bs : List ℕ) → length bs ≡ 0 → decoded (codes "-") ≡ Some bs
+back_none : (bs : List ℕ) → length bs ≡ 0 → decoded (codes "-") ≡ Some bs
 unfolding decoded
 back_none [] n = refl
 back_none (b ∷ bs) n = absurd (omega arith)
+
+-- the chunks of a text are its characters, two by two
+chunk_at : (t : List ℕ) (n i : ℕ) (d : List ℕ) → i < n → get_or (first_chunks 2 n t) i d ≡ take 2 (drop (2 * i) t)
+chunk_at t zero i d h = absurd (omega arith)
+chunk_at t (suc n) zero d h = refl
+chunk_at t (suc n) (suc i) d h =
+    let e : 2 + 2 * i ≡ 2 * suc i = omega arith in
+    chunk_at (drop 2 t) n i d (omega arith) ∙ ap (take 2) (drop-drop (2 * i) 2 t) ∙ ap (λ k. take 2 (drop k t)) e
+
+chunk_char : (t : List ℕ) (cs : List (List ℕ)) (d : List ℕ) (i k : ℕ) → cs ≡ first_chunks 2 (length t / 2) t → i < length t / 2 → k < 2 → get_or (get_or cs i d) k 0 ≡ get_or t (2 * i + k) 0
+chunk_char t cs d i k is h small =
+    ap (λ xs. get_or (get_or xs i d) k 0) is ∙ ap (λ xs. get_or xs k 0) (chunk_at t (length t / 2) i d h) ∙ get_or-take 2 (drop (2 * i) t) k 0 small
+    ∙ get_or-drop (2 * i) t k 0
+
+pub chunk_high : (t : List ℕ) (cs : List (List ℕ)) (d : List ℕ) (i : ℕ) → cs ≡ first_chunks 2 (length t / 2) t → i < length t / 2 → value (get_or (get_or cs i d) 0 0) ≡ value (get_or t (2 * i) 0)
+chunk_high t cs d i is h = ap value (chunk_char t cs d i 0 is h (lit< tt) ∙ ap (λ n. get_or t n 0) (add-zero (2 * i)))
+
+pub chunk_low : (t : List ℕ) (cs : List (List ℕ)) (d : List ℕ) (i : ℕ) → cs ≡ first_chunks 2 (length t / 2) t → i < length t / 2 → value (get_or (get_or cs i d) 1 0) ≡ value (get_or t (2 * i + 1) 0)
+chunk_low t cs d i is h = ap value (chunk_char t cs d i 1 is h (lit< tt))
 
 -- a pair more is read
 after-joins : (xs : List ℕ) (h l : ℕ) (o : Option (List ℕ)) → after xs (joins (Some h) (Some l) o) ≡ after (xs ++ (16 * h + l) ∷ []) o
@@ -113,6 +111,13 @@ read_none (c ∷ cs) n d = rw (apart (c ∷ cs) d) (after_none (pairs (c ∷ cs)
   where
     apart : (t : List ℕ) → (t ≡ codes "-" → ⊥) → bytes_eq t (codes "-") ≡ false
     apart t d = ⊎_elim (λ e. absurd (d ((bytes_eq-Decides t (codes "-")).0 e))) (λ e. e) (cases_Bool (bytes_eq t (codes "-")))
+
+-- what a comparison with a dash says
+pub is_dash : (t d : List ℕ) (r : Bool) → r ≡ bytes_eq t d → d ≡ codes "-" → r ≡ true → t ≡ codes "-"
+is_dash t d r e f is = (bytes_eq-Decides t d).0 (sym e ∙ is) ∙ f
+
+pub no_dash : (t d : List ℕ) (r : Bool) → r ≡ bytes_eq t d → d ≡ codes "-" → r ≡ false → t ≡ codes "-" → ⊥
+no_dash t d r e f apart is = let z : true ≡ false = sym ((bytes_eq-Decides t d).1 (is ∙ sym f)) ∙ sym e ∙ apart in cc
 
 pub read_dash : (t xs : List ℕ) → t ≡ codes "-" → xs ≡ [] → decoded t ≡ Some xs
 unfolding decoded
@@ -158,6 +163,12 @@ digits-pairs (h ∷ l ∷ rest) bs e =
     let m : (16 * x + y) % 16 ≡ y = omega (arith, lo.1) in
     let ih = digits-pairs rest p.2 p.5 in
     rw (p.6, q, m, hi.0, lo.0, ih) refl
+
+-- the text of bytes spells them
+pub back : (bs : List ℕ) → ((i : ℕ) → get_or bs i 0 < 256) → decoded (encoded bs) ≡ Some bs
+unfolding encoded
+back [] h = back_none [] refl
+back (b ∷ bs) h = back_some (b ∷ bs) h (omega arith)
 
 pub spells : (t bs : List ℕ) → decoded t ≡ Some bs → encoded bs ≡ t
 unfolding decoded encoded digits

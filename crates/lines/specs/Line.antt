@@ -1,6 +1,7 @@
 -- A line as words.
-use Rattle.std.specs.Prelude.{ℕ, ◌-◌, Bool, cond, ◌||◌, List, [], ◌∷◌, length, take, Some, None, Option, ◌==◌, slice_index}
+use Rattle.std.specs.Prelude.{ℕ, ◌-◌, Bool, cond, ◌||◌, List, [], length, take, Some, None, Option, ◌==◌, slice_index}
 use Rattle.std.specs.Borrow.{Bor}
+use Rattle.std.specs.List.{slice_split}
 
 -- a line without the line feed that ends it
 abbrev pub content_of : List ℕ → List ℕ
@@ -10,15 +11,9 @@ content_of line = cond (slice_index line (length line - 1) == 10) (take (length 
 abbrev pub is_skipped : List ℕ → Bool
 is_skipped line = length line == 0 || slice_index line 0 == 35
 
--- a character in front of the first word
-abbrev pub extends : ℕ → List (List ℕ) → List (List ℕ)
-extends c [] = (c ∷ []) ∷ []
-extends c (w ∷ ws) = (c ∷ w) ∷ ws
-
 -- a line cut at each space: there is one word more than there are spaces
 unfoldable pub words : List ℕ → List (List ℕ)
-words [] = [] ∷ []
-words (c ∷ cs) = cond (c == 32) ([] ∷ words cs) (extends c (words cs))
+words line = slice_split (λ c. c == 32) line
 
 -- the words of what follows a space, if there was one
 abbrev pub words_of : Option (Bor (List ℕ)) → List (List ℕ)

@@ -11,15 +11,16 @@ pub fn number(text: &[u8], largest: u64) -> Option<u64>
     if text.is_empty() {
         return None;
     }
-    let mut total: u128 = 0;
+    let mut total: u64 = 0;
+    // By hand, and not by `parse`, which takes a `+` in front of the digits.
     for c in text {
-        if *c < b'0' || *c > b'9' {
+        if !c.is_ascii_digit() {
             return None;
         }
-        total = 10 * total + u128::from(*c - b'0');
-        if total > u128::from(largest) {
+        total = total.checked_mul(10)?.checked_add(u64::from(*c - b'0'))?;
+        if total > largest {
             return None;
         }
     }
-    Some(total as u64)
+    Some(total)
 }

@@ -4,23 +4,33 @@ ghost use Rattle.std.specs.Prelude.{◌≡◌, ◌%◌, IfSome, IfOk, Some, vec_
 ghost use Rattle.std.specs.Option.{option_map};
 ghost use Rattle.lines.specs.Hex.{digit, value, encoded, decoded, bytes_line};
 
-use sha256::same;
 use std::alloc::{AllocError, Global};
+use std::fmt;
+
+/// Bytes, shown as two hex digits each, the high one first, or as a dash where there are none.
+#[derive(Clone, Copy)]
+pub struct Hex<'a>(pub &'a [u8]);
+
+impl fmt::Display for Hex<'_> {
+    ghost output = { λ h. Some (encoded h.0.now) };
+
+    fn fmt<W: fmt::Write>(&self, f: &mut fmt::Formatter<W>) -> fmt::Result {
+        if self.0.is_empty() {
+            return write!(f, "-");
+        }
+        for &byte in self.0 {
+            write!(f, "{byte:02x}")?;
+        }
+        Ok(())
+    }
+}
 
 /// The text of `bytes`.
 pub fn encode(heap: Global, bytes: &[u8]) -> Result<String, AllocError>
     ensures text { IfOk result (λ s. string_bytes s ≡ encoded bytes.now) }
     ensures back { IfOk result (λ s. decoded (string_bytes s) ≡ Some bytes.now) }
 {
-    if bytes.is_empty() {
-        return String::from_str(heap, "-");
-    }
-    let mut text = String::new(heap);
-    for b in bytes {
-        text.push(digit_of(*b / 16))?;
-        text.push(digit_of(*b))?;
-    }
-    Ok(text)
+    Hex(bytes).to_string(heap)
 }
 
 /// The bytes that `text` spells, if it spells any.
@@ -29,17 +39,16 @@ pub fn decode(heap: Global, text: &[u8]) -> Result<Option<Vec<u8>>, AllocError>
     ensures exact { IfOk result (λ o. IfSome o (λ v. encoded v.items ≡ text.now)) }
 {
     let mut bytes = Vec::new(heap);
-    if same(text, b"-") {
+    if text == b"-".as_slice() {
         return Ok(Some(bytes));
     }
     if text.is_empty() || text.len() % 2 != 0 {
         return Ok(None);
     }
-    for i in 0..text.len() / 2 {
-        let Some(high) = value_of(text[2 * i]) else {
-            return Ok(None);
-        };
-        let Some(low) = value_of(text[2 * i + 1]) else {
+    // By hand, and not by a library of hex, which takes capitals too.
+    let (pairs, _) = text.as_chunks::<2>();
+    for [high, low] in pairs {
+        let (Some(high), Some(low)) = (value_of(*high), value_of(*low)) else {
             return Ok(None);
         };
         bytes.push(16 * high + low)?;
@@ -51,20 +60,11 @@ pub fn decode(heap: Global, text: &[u8]) -> Result<Option<Vec<u8>>, AllocError>
 pub fn line(heap: Global, name: &str, bytes: &[u8]) -> Result<String, AllocError>
     ensures text { IfOk result (λ s. string_bytes s ≡ bytes_line name.now bytes.now) }
 {
-    let digits = encode(heap, bytes)?;
-    format!(in heap; "{name}: {digits}\n")
+    let bytes = Hex(bytes);
+    format!(in heap; "{name}: {bytes}\n")
 }
 
-/// The digit of the low four bits.
-fn digit_of(byte: u8) -> char
-    ensures { result ≡ digit (byte % 16) }
-{
-    match byte % 16 {
-        low @ 0..=9 => (b'0' + low) as char,
-        low => (b'a' + (low - 10)) as char,
-    }
-}
-
+/// What a digit stands for; by hand, since the library's digits of base 16 are capitals too.
 fn value_of(digit: u8) -> Option<u8>
     ensures { result ≡ value digit }
 {

@@ -1,6 +1,6 @@
 //! A line, and the cut into its words.
 
-ghost use Rattle.std.specs.Prelude.{◌≡◌, ◌∷◌};
+ghost use Rattle.std.specs.Prelude.{◌≡◌, ◌==◌, ◌∷◌, position};
 ghost use Rattle.lines.specs.Line.{content_of, is_skipped, words, words_of};
 ghost use Rattle.lines.specs.Taken.{headed, single, told_words, told_word};
 
@@ -15,44 +15,44 @@ pub struct Words<'a> {
 pub fn content(line: &[u8]) -> &[u8]
     ensures { result.now ≡ content_of line.now }
 {
-    if line.is_empty() || line[line.len() - 1] != b'\n' {
-        return line;
-    }
-    &line[0..line.len() - 1]
+    line.strip_suffix(b"\n").unwrap_or(line)
 }
 
 /// Empty lines and comments ask for nothing.
 pub fn is_skipped(line: &[u8]) -> bool
     ensures { result ≡ is_skipped line.now }
 {
-    line.is_empty() || line[0] == b'#'
+    line.is_empty() || line.starts_with(b"#")
 }
 
 /// The word at the front of `line`, and the rest.
 pub fn cut(line: &[u8]) -> Words<'_>
     ensures whole { words line.now ≡ result.first.now ∷ words_of result.rest }
 {
-    for (i, b) in line.iter().enumerate() {
-        if *b == b' ' {
-            let first = &line[0..i];
-            let rest = Some(&line[i + 1..]);
-            return Words { first, rest };
-        }
+    match first_space(line) {
+        Some(space) => Words {
+            first: &line[..space],
+            rest: Some(&line[space + 1..]),
+        },
+        None => Words {
+            first: line,
+            rest: None,
+        },
     }
-    Words {
-        first: line,
-        rest: None,
-    }
+}
+
+/// Where the first space is.
+fn first_space(line: &[u8]) -> Option<usize>
+    ensures { result ≡ position (λ b. b == 32) line.now }
+{
+    line.iter().position(|b| *b == b' ')
 }
 
 /// The next word, where there is one.
 pub fn next(rest: Option<&[u8]>) -> Option<Words<'_>>
     ensures answer { told_words result ≡ headed (words_of rest.entry) }
 {
-    match rest {
-        Some(line) => Some(cut(line)),
-        None => None,
-    }
+    rest.map(cut)
 }
 
 /// The next word, where it is the last.

@@ -1,11 +1,10 @@
 -- Slots gathered to the front, and cleared behind.
-use Rattle.std.specs.Prelude.{◌≡◌, ℕ, ◌+◌, ◌-◌, ◌<◌, ◌≤◌, List, [], ◌∷◌, ◌++◌, length, get_or, take, drop, set, replicate, slice_index, slice_index_or, slice_set}
+use Rattle.std.specs.Prelude.{◌≡◌, ℕ, ◌+◌, ◌-◌, ◌<◌, ◌≤◌, List, [], ◌∷◌, ◌++◌, length, get_or, take, drop, set, slice_index, slice_index_or, slice_set}
 use Rattle.std.proofs.Common.{sym, ap, ◌∙◌, arith}
-use Rattle.std.proofs.lemmas.List.{append-nil, append_assoc, take_all, take_more, take-append-drop, drop_all, drop_more, length-append, length-take-le, length-drop, length-map, length-replicate, get_or-drop, get_or-append_right, set-append_right, map_push, replicate_more}
-use Rattle.credential.specs.Slot.{free}
+use Rattle.std.proofs.lemmas.List.{append_assoc, take_all, take_more, drop_more, length-append, length-take-le, length-drop, length-map, get_or-drop, get_or-append_right, set-append_right, map_push}
 use Rattle.image.specs.Cut.{copied}
 use Rattle.image.proofs.Cells.{copied_within}
-use Rattle.logstore.specs.Cells.{Ahead, chosen, gathered, wiped}
+use Rattle.logstore.specs.Cells.{Ahead, chosen, gathered}
 
 pub length-chosen : (ss : List (List ℕ)) (ps : List ℕ) → length (chosen ss ps) ≡ length ps
 length-chosen ss ps = length-map ps (λ p. get_or ss p [])
@@ -49,27 +48,3 @@ pub length-gathered : (ss : List (List ℕ)) (ps : List ℕ) → Ahead (length s
 unfolding gathered
 length-gathered ss ps ahead =
     length-append (chosen ss ps) (drop (length ps) ss) ∙ omega (arith, length-chosen ss ps, length-drop (length ps) ss, ahead_few (length ss) ps ahead)
-
--- the next slot is cleared
-pub wiped_more :
-    (now ss : List (List ℕ)) (from k : ℕ) → now ≡ take from ss ++ (replicate (k - from) free ++ drop k ss) → from ≤ k → k < length ss
-    → slice_set now k free ≡ take from ss ++ (replicate (k + 1 - from) free ++ drop (k + 1) ss)
-wiped_more now ss from k e le lt =
-    let front = take from ss ++ replicate (k - from) free in
-    let long : length front ≡ k = length-append (take from ss) (replicate (k - from) free) ∙ omega (arith, length-take-le from ss (omega arith), length-replicate (k - from) free) in
-    let next : k - from + 1 ≡ k + 1 - from = omega arith in
-    ap (λ l. set l k free) (e ∙ sym (append_assoc (take from ss) (replicate (k - from) free) (drop k ss)))
-    ∙ set_next front ss k free long lt
-    ∙ append_assoc (take from ss) (replicate (k - from) free) (free ∷ drop (k + 1) ss)
-    ∙ ap (λ l. take from ss ++ l) (sym (append_assoc (replicate (k - from) free) (free ∷ []) (drop (k + 1) ss)) ∙ ap (λ l. l ++ drop (k + 1) ss) (replicate_more (k - from) free ∙ ap (λ n. replicate n free) next))
-
-pub wiped_none : (ss : List (List ℕ)) (from : ℕ) → ss ≡ take from ss ++ (replicate (from - from) free ++ drop from ss)
-wiped_none ss from =
-    let z : from - from ≡ 0 = omega arith in
-    rw z (sym (take-append-drop from ss))
-
-pub wiped_all : (now ss : List (List ℕ)) (from k : ℕ) → now ≡ take from ss ++ (replicate (k - from) free ++ drop k ss) → k ≡ length ss → now ≡ wiped ss from
-unfolding wiped
-wiped_all now ss from k e is =
-    e ∙ ap (λ l. take from ss ++ (replicate (k - from) free ++ l)) (drop_all k ss (omega arith))
-    ∙ ap (λ l. take from ss ++ l) (append-nil (replicate (k - from) free) ∙ ap (λ n. replicate (n - from) free) is)

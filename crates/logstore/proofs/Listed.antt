@@ -1,21 +1,16 @@
 -- The slots of the listed records hold these records.
-use Rattle.std.specs.Prelude.{◌≡◌, ℕ, zero, suc, List, [], ◌∷◌, ◌++◌, map, length, get_or, take, drop, replicate, Some, Option, slice_index_or, refl}
+use Rattle.std.specs.Prelude.{◌≡◌, ℕ, zero, suc, List, [], ◌∷◌, ◌++◌, map, length, get_or, replicate, Some, Option, slice_index_or, refl}
 use Rattle.std.proofs.Common.{sym, ap, ◌∙◌, arith}
 use Rattle.std.specs.List.{remove}
-use Rattle.std.proofs.lemmas.List.{append_assoc, length_push, map_push, map-append, take-map, drop-map, get_or_at}
+use Rattle.std.proofs.lemmas.List.{append_assoc, length_push, map_push, get_or_at}
 use Rattle.credential.specs.Rec.{Rec}
 use Rattle.credential.specs.Slot.{Entry, put, gone, Content, empty, holds, free, written, slot, content_of}
 use Rattle.credential.proofs.Slots.{content-free, content-written}
 use Rattle.image.specs.declared.kind.Kind.{Kind}
 use Rattle.image.specs.Laws.{Leads, done, came, went}
+use Rattle.image.proofs.Led.{map_removed}
 use Rattle.logstore.specs.Cells.{chosen}
 use Rattle.logstore.specs.Places.{seen, places_from}
-
-map_removed : {X Y : Type 0} (f : X → Y) (xs : List X) (i : ℕ) → map f (remove xs i) ≡ remove (map f xs) i
-map_removed f xs i =
-    map-append f (take i xs) (drop (suc i) xs)
-    ∙ ap (λ l. l ++ map f (drop (suc i) xs)) (sym (take-map f i xs))
-    ∙ ap (λ l. take i (map f xs) ++ l) (sym (drop-map f (suc i) xs))
 
 -- the slots from k on, where the first of them is read as this
 places-next : (k : ℕ) (ps s : List ℕ) (ss : List (List ℕ)) (o : Option Content) → content_of s ≡ o → places_from k ps (s ∷ ss) ≡ places_from (suc k) (seen k ps o) ss
@@ -45,7 +40,7 @@ module _ {kind : Kind} {capacity : ℕ} (n : ℕ) (ss : List (List ℕ)) where
       let rest = map written es ++ replicate n free in
       let s = written (gone place) in
       let next : chosen ss (remove ps place) ≡ map slot (remove rs place) =
-      map_removed (λ p. get_or ss p []) ps place ∙ ap (λ l. remove l place) is ∙ sym (map_removed slot rs place) in
+      sym (map_removed (λ p. get_or ss p []) ps place) ∙ ap (λ l. remove l place) is ∙ map_removed slot rs place in
       ap (chosen ss) (places-next k ps s rest (Some (holds (gone place))) (content-written (gone place) tt))
       ∙ chosen-from on (front ++ s ∷ []) (suc k) (remove ps place) (parts ∙ sym (append_assoc front (s ∷ []) rest)) (omega (arith, length_push front s)) next
 

@@ -1,10 +1,9 @@
 -- Slot numbers that are held in front of an array, and the slots of the listed records.
-use Rattle.std.specs.Prelude.{◌≡◌, ℕ, suc, ◌+◌, ◌-◌, ◌<◌, ◌≤◌, List, [], ◌∷◌, ◌++◌, length, take, drop, Some, None, Option, slice_index, slice_index_or}
+use Rattle.std.specs.Prelude.{◌≡◌, ℕ, suc, ◌+◌, ◌<◌, ◌≤◌, List, [], ◌∷◌, ◌++◌, length, drop, Some, None, Option, slice_index, slice_index_or}
 use Rattle.std.proofs.Common.{sym, ap, ◌∙◌, inl, inr, add-one, arith}
-use Rattle.std.proofs.Math.Seq.{paste}
 use Rattle.std.specs.List.{remove}
-use Rattle.std.proofs.lemmas.List.Edits.{take-paste, length-remove, get_or-remove_below, get_or-remove_above}
-use Rattle.std.proofs.lemmas.List.{append-nil, take-take, drop-take, take_all, drop_all, length-append, length-take, length-drop, at_drop_more, at_drop_all, length_push, get_or_append_left, get_or_push}
+use Rattle.std.proofs.lemmas.List.Edits.{length-remove, get_or-remove_below, get_or-remove_above}
+use Rattle.std.proofs.lemmas.List.{append-nil, take_all, drop_all, length-append, length-take, length-drop, at_drop_more, at_drop_all, length_push, get_or_append_left, get_or_push}
 use Rattle.std.proofs.lemmas.Bool.{cases_lt}
 use Rattle.credential.specs.Slot.{Content, empty, holds, put, gone, content_of}
 use Rattle.logstore.specs.Cells.{Ahead}
@@ -16,18 +15,6 @@ removed_past xs i le = ap (λ l. l ++ drop (suc i) xs) (take_all i xs le) ∙ ap
 
 pub length_removed_le : {X : Type 0} (xs : List X) (i : ℕ) → length (remove xs i) ≤ length xs
 length_removed_le xs i = simp (length-append, length-take, length-drop) (omega arith)
-
--- the numbers behind a place are moved up by one
-pub removed_front :
-    (xs : List ℕ) (len place : ℕ) → len ≤ length xs → place < len → take (len - 1) (paste xs place (drop (place + 1) xs) (len - (place + 1))) ≡ remove (take len xs) place
-removed_front xs len place le lt =
-    let n = len - (place + 1) in
-    let sum : len - 1 ≡ place + n = omega arith in
-    let all : len ≡ place + 1 + n = omega arith in
-    ap (λ m. take m (paste xs place (drop (place + 1) xs) n)) sum
-    ∙ take-paste xs place (drop (place + 1) xs) n (omega arith) (omega (arith, length-drop (place + 1) xs))
-    ∙ ap (λ l. l ++ take n (drop (place + 1) xs)) (sym (take-take place len xs (omega arith)))
-    ∙ ap (λ l. take place (take len xs) ++ l) (sym (drop-take (place + 1) n xs) ∙ ap (λ m. drop (place + 1) (take m xs)) (sym all) ∙ ap (λ m. drop m (take len xs)) (add-one place))
 
 -- the slots from k on, the first of them read
 pub places_more :

@@ -1,6 +1,5 @@
--- Slots gathered to the front and cleared behind.
-use Rattle.std.specs.Prelude.{ℕ, ◌-◌, ◌<◌, ◌≤◌, List, [], ◌++◌, map, length, take, drop, replicate, slice_index, slice_index_or}
-use Rattle.credential.specs.Slot.{free}
+-- Slots gathered to the front.
+use Rattle.std.specs.Prelude.{ℕ, ◌<◌, ◌≤◌, List, [], ◌++◌, map, length, drop, slice_index, slice_index_or}
 
 -- each number is that of one of so many slots, and none stands before its own place
 abbrev pub Ahead : ℕ → List ℕ → Type 0
@@ -13,7 +12,3 @@ chosen ss ps = map (λ p. slice_index_or ss p []) ps
 -- the slots with those of these numbers in front
 unfoldable pub gathered : List (List ℕ) → List ℕ → List (List ℕ)
 gathered ss ps = chosen ss ps ++ drop (length ps) ss
-
--- the slots with those from a number on made free
-unfoldable pub wiped : List (List ℕ) → ℕ → List (List ℕ)
-wiped ss from = take from ss ++ replicate (length ss - from) free

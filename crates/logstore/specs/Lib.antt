@@ -1,4 +1,3 @@
 pub mod Log
 pub mod Places
 pub mod Cells
-pub mod Bound

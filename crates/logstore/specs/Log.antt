@@ -1,5 +1,5 @@
 -- A log of what came and went: the image after each call.
-use Rattle.std.specs.Prelude.{ℕ, ◌/◌, Bool, cond, List, [], ◌∷◌, ◌++◌, map, length, is_ok, nat_lt}
+use Rattle.std.specs.Prelude.{◌≡◌, ℕ, ◌/◌, Bool, true, cond, List, [], ◌∷◌, ◌++◌, map, length, is_ok, nat_lt}
 use Rattle.credential.specs.Rec.{Rec}
 use Rattle.credential.specs.Slot.{Entry, put, gone}
 use Rattle.image.specs.declared.kind.Kind.{Kind}
@@ -23,6 +23,12 @@ entries_in im = entries_of Log im
 -- the records that a log lists
 abbrev pub records_in : List ℕ → List Rec
 records_in im = records_of Log im
+
+-- the image is that of a log with so many used slots, which list so many records
+pub record IsLogOf (im : List ℕ) (used count : ℕ) : Type 0 where
+  pub opens : is_log im ≡ true
+  pub filled : length (entries_in im) ≡ used
+  pub listed : length (records_in im) ≡ count
 
 -- the entries once a slot is free: compacted to the listed records where none is
 unfoldable pub spared : ℕ → List Entry → List Entry

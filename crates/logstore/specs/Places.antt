@@ -1,12 +1,7 @@
 -- Where the listed records lie: the replay, on slot numbers.
-use Rattle.std.specs.Prelude.{ℕ, suc, List, [], ◌∷◌, ◌++◌, take, Some, None, Option}
+use Rattle.std.specs.Prelude.{ℕ, suc, List, [], ◌∷◌, ◌++◌, Some, None, Option}
 use Rattle.std.specs.List.{remove}
 use Rattle.credential.specs.Slot.{Content, empty, holds, put, gone, content_of}
-use Rattle.logstore.specs.declared.places.Places.{Places}
-
--- the slot numbers that are held
-abbrev pub held : Places → List ℕ
-held p = take p.len p.slots
 
 -- the slots of the listed records after slot k, which holds this
 abbrev pub seen : ℕ → List ℕ → Option Content → List ℕ

@@ -5,9 +5,8 @@
 mod compaction;
 mod listing;
 mod log;
-mod methods;
-mod places;
 #[cfg(test)]
 mod tests;
 
+pub use image::ImageStore;
 pub use log::Log;

@@ -1,21 +1,149 @@
-//! A log.
+//! A log, and its calls.
 
-ghost use Rattle.std.specs.Prelude.{◌≡◌, true, length};
-ghost use Rattle.image.specs.Cut.{bytes_of};
-ghost use Rattle.logstore.specs.Log.{is_log, entries_in, records_in};
+ghost use Rattle.std.specs.Prelude.{◌≡◌, ◌<◌, length, slice_index_or};
+ghost use Rattle.std.proofs.Common.{refl, ap};
+ghost use Rattle.credential.specs.Rec.{Rec};
+ghost use Rattle.image.specs.Cut.{cells, bytes_of};
+ghost use Rattle.image.specs.Kinds.{capacity_of};
+ghost use Rattle.image.proofs.Stores.{bounded};
+ghost use Rattle.logstore.specs.Log.{kind, entries_in, records_in, spared, extended, reduced};
 
-use image::Image;
+use crate::compaction::compact;
+use crate::listing::places;
+use credential::{Full, NoRecord, Record, Store, withdrawal};
+use image::{Counts, Image, ImageStore, Kind, Opened, Refused};
+use std::marker::Model;
 
 /// A store that logs what came and went: each used slot adds a record to the end of the list
-/// or withdraws the one at a place.
+/// or withdraws the one at a place. A clause sees the image.
 #[derive(Drop)]
 pub struct Log {
-    pub(crate) image: Image,
-    /// How many slots are used, from the first on.
-    pub(crate) used: usize,
-    /// How many records they list.
-    pub(crate) count: usize,
-    ghost opens: { is_log (bytes_of image) ≡ true },
-    ghost filled: { length (entries_in (bytes_of image)) ≡ used },
-    ghost listed: { length (records_in (bytes_of image)) ≡ count },
+    image: Image,
+    // Kept beside the image: each call would else go over all its slots again.
+    counts: Counts,
+}
+
+impl Model for Log {
+    ghost use Rattle.std.specs.Prelude.{ℕ, Vec};
+    ghost use Rattle.std.specs.declared.alloc.Global.{Global};
+    ghost use Rattle.image.specs.Cut.{bytes_of};
+    ghost use Rattle.logstore.specs.Log.{IsLogOf};
+
+    ghost Value = { Vec ℕ Global };
+
+    ghost view = { λ log. log.image };
+
+    ghost invariant = { λ log. IsLogOf (bytes_of log.image) log.counts.used log.counts.listed };
+}
+
+// Alike for `Table`, and twice: the invariants differ, by which each proof knows that its image opens.
+impl ImageStore for Log {
+    ghost kind = { kind };
+
+    ghost buffer = { λ log. log };
+
+    ghost imaged = { λ log. refl };
+
+    ghost listed = { λ log. refl };
+
+    ghost sized = { λ log. refl };
+
+    fn open(bytes: Vec<u8>) -> Result<Log, Refused> {
+        let Opened { image, counts } = image::open(Kind::Log, bytes)?;
+        Ok(Log { image, counts })
+    }
+
+    fn bytes(&self) -> &[u8] {
+        self.image.bytes()
+    }
+
+    fn into_bytes(self) -> Vec<u8> {
+        let Log { image, .. } = self;
+        image.into_bytes()
+    }
+}
+
+impl Log {
+    /// Compacts the log where no slot is free: only the listed records stay.
+    fn make_room(&mut self)
+        ensures entries { entries_in (bytes_of self.new) ≡ spared (length (cells self.old)) (entries_in (bytes_of self.old)) }
+        ensures kept { length (bytes_of self.new) ≡ length (bytes_of self.old) }
+        ensures free { length (entries_in (bytes_of self.new)) < length (cells self.new) }
+    {
+        if self.counts.used < self.image.len() {
+            return;
+        }
+        let places = places(&self.image);
+        compact(&mut self.image, places.as_slice());
+        self.counts.used = self.counts.listed;
+    }
+
+    /// The record at a place of the list.
+    fn record_at(&self, place: usize) -> Record
+        requires { place < length (records_in (bytes_of self.now)) }
+        ensures { (d : Rec) → result ≡ slice_index_or (records_in (bytes_of self.now)) place d }
+    {
+        let places = places(&self.image);
+        let Some(found) = Record::from_slot(self.image.slot(places.as_slice()[place])) else {
+            unreachable()
+        };
+        found
+    }
+}
+
+// Alike for `Table`: each names its own definitions, and a type over both would carry a log's used slots in a table.
+impl Store for Log {
+    ghost records = { λ log. records_in (bytes_of log) };
+
+    ghost room = { λ log. capacity_of kind (bytes_of log) };
+
+    ghost image = { λ log. bytes_of log };
+
+    ghost extended = { extended };
+
+    ghost reduced = { reduced };
+
+    ghost bounded = { λ log. bounded kind (bytes_of log) };
+
+    ghost determined = { λ s t e. (ap records_in e, ap (capacity_of kind) e) };
+
+    fn count(&self) -> usize {
+        self.counts.listed
+    }
+
+    #[tactic(auto, using(image::proofs::Cells::length_slots))]
+    fn capacity(&self) -> usize {
+        Kind::Log.capacity(self.image.len())
+    }
+
+    fn read(&self, place: usize, into: &mut Record) -> Result<(), NoRecord> {
+        if place >= self.counts.listed {
+            return Err(NoRecord);
+        }
+        *into = self.record_at(place);
+        Ok(())
+    }
+
+    fn add(&mut self, new: &Record) -> Result<(), Full> {
+        if self.counts.listed >= self.capacity() {
+            return Err(Full);
+        }
+        self.make_room();
+        self.image.write(self.counts.used, &new.to_slot());
+        self.counts.used += 1;
+        self.counts.listed += 1;
+        Ok(())
+    }
+
+    fn remove(&mut self, place: usize) -> Result<(), NoRecord> {
+        if place >= self.counts.listed {
+            return Err(NoRecord);
+        }
+        self.make_room();
+        // The cast is proved to lose nothing, where `u8::try_from` would need a branch that no call takes.
+        self.image.write(self.counts.used, &withdrawal(place as u8));
+        self.counts.used += 1;
+        self.counts.listed -= 1;
+        Ok(())
+    }
 }

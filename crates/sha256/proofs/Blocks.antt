@@ -1,30 +1,34 @@
--- One step of the schedule and of the rounds, at the place that a loop has come to.
-use Rattle.std.proofs.Common.{◌≡◌, ℕ, suc, ◌+◌, ◌-◌, ◌*◌, ◌<◌, ◌≤◌, List, [], ◌∷◌, ◌++◌, length, get_or, take, drop, set, sym, refl, ◌∙◌, arith}
-use Rattle.std.proofs.lemmas.List.{drop_more, drop-drop, drop_all, take_more_set, take_all, append_assoc, append-nil, get_or-take, length-take-le}
+-- The rounds as a fold, and one step of the schedule at the place that a loop has come to.
+use Rattle.std.proofs.Common.{◌≡◌, ℕ, zero, suc, ◌+◌, ◌-◌, ◌<◌, ◌≤◌, List, [], ◌∷◌, ◌++◌, length, take, drop, set, map, sym, refl, ◌∙◌, arith}
+use Rattle.std.specs.Simd.{first_chunks}
+use Rattle.std.specs.List.{fold, zip}
+use Rattle.std.proofs.lemmas.List.{take_more_set, take_all, get_or-take, length-take-le}
+use Rattle.std.proofs.lemmas.Grind.{common_steps}
 use Rattle.sha256.specs.declared.state.State.{State}
 use Rattle.sha256.specs.Sha256.{word, words, next_word, extend, round, rounds}
 
-pub rounds_more : (ks ws : List ℕ) (t : ℕ) (v : State) → t < length ks → t < length ws → rounds (drop t ks) (drop t ws) v ≡ rounds (drop (t + 1) ks) (drop (t + 1) ws) (round (get_or ks t 0) (get_or ws t 0) v)
+-- the rounds are a fold over each constant beside its word
+pub rounds_fold : (ks ws : List ℕ) (v : State) → rounds ks ws v ≡ fold (λ s p. round p.0 p.1 s) v (zip ks ws)
 unfolding rounds
-rounds_more ks ws t v p q = rw (drop_more ks t 0, drop_more ws t 0)
+rounds_fold [] ws v = refl
+rounds_fold (k ∷ ks) [] v = refl
+rounds_fold (k ∷ ks) (w ∷ ws) v = rounds_fold ks ws (round k w v)
 
-pub rounds_none : (ks ws : List ℕ) (t : ℕ) (v : State) → length ks ≤ t → rounds (drop t ks) ws v ≡ v
-unfolding rounds
-rounds_none ks ws t v le = rw drop_all
+-- the first word of four bytes
+word_front : (bs : List ℕ) → word (take 4 bs) ≡ word bs
+word_front bs = grind (arith, common_steps)
 
--- the place t of the block's own words
-pub words_more : (bs w : List ℕ) (t x : ℕ) → t < length w → t < 16 → x ≡ word (drop (4 * t) bs) → take (t + 1) (set w t x) ++ words (16 - (t + 1)) (drop (4 * (t + 1)) bs) ≡ take t w ++ words (16 - t) (drop (4 * t) bs)
+-- the block's own words
+words_chunks : (n : ℕ) (bs : List ℕ) → map word (first_chunks 4 n bs) ≡ words n bs
 unfolding words
-words_more bs w t x h lt is =
-    let left : 16 - t ≡ suc (16 - (t + 1)) = omega arith in
-    let place : 4 * t + 4 ≡ 4 * (t + 1) = omega arith in
-    rw (take_more_set w t x h, append_assoc, left, drop-drop, place, is)
+words_chunks zero bs = refl
+words_chunks (suc n) bs = rw (word_front bs, words_chunks n (drop 4 bs))
 
-pub words_all : (bs w ws : List ℕ) (t : ℕ) → 16 ≤ t → t ≤ 16 → take t w ++ words (16 - t) (drop (4 * t) bs) ≡ ws → take 16 w ≡ ws
-unfolding words
-words_all bs w ws t low high e =
-    let is : t ≡ 16 = omega arith in
-    sym (append-nil (take 16 w)) ∙ (rw is at e)
+-- the words of all the chunks
+pub words_all : (bs w : List ℕ) (cs : List (List ℕ)) (t : ℕ) → cs ≡ first_chunks 4 16 bs → length cs ≡ 16 → t ≡ 16 → take t w ≡ map word (take t cs) → take 16 w ≡ words 16 bs
+words_all bs w cs t front long is e =
+    let le : length cs ≤ 16 = omega arith in
+    (rw is at e) ∙ (rw (take_all 16 cs le, front) (words_chunks 16 bs))
 
 extend-suc : (n : ℕ) (W : List ℕ) → extend (suc n) W ≡ extend n (W ++ next_word W (length W) ∷ [])
 unfolding extend

@@ -1,6 +1,8 @@
 -- Blocks of a message that comes in parts.
 use Rattle.std.proofs.Common.{◌≡◌, ℕ, zero, suc, ◌+◌, ◌-◌, ◌*◌, ◌%◌, ◌^◌, ◌<◌, ◌≤◌, List, ◌∷◌, ◌++◌, length, take, drop, replicate, sym, refl, ap, ◌∙◌, suc-add, zero-add, arith}
-use Rattle.std.proofs.lemmas.List.{drop-drop, drop-append-le, take-append-le, take_at, drop_at, length-append, length-drop, drop_all, append-nil, append_assoc, nil_from_length, take-replicate}
+use Rattle.std.proofs.lemmas.List.{drop-drop, drop-append-le, take-append-le, take_at, drop_at, length-append, length-drop, drop_all, append-nil, append_assoc, take-replicate}
+use Rattle.std.specs.Simd.{first_chunks}
+use Rattle.std.specs.List.{fold}
 use Rattle.sha256.specs.declared.state.State.{State}
 use Rattle.sha256.specs.Sha256.{H0, compress, blocks, digest_of, sha256, padded, length_field}
 use Rattle.sha256.specs.declared.hasher.Hasher.{Hasher}
@@ -10,9 +12,11 @@ blocks-suc : (n : ℕ) (H : State) (m : List ℕ) → blocks (suc n) H m ≡ blo
 unfolding blocks
 blocks-suc n H m = refl
 
-pub blocks_none : (n : ℕ) (H : State) (m : List ℕ) → n ≡ 0 → blocks n H m ≡ H
+-- the blocks are a fold over the chunks of 64 bytes
+pub blocks_fold : (n : ℕ) (H : State) (m : List ℕ) → blocks n H m ≡ fold compress H (first_chunks 64 n m)
 unfolding blocks
-blocks_none n H m e = rw e
+blocks_fold zero H m = refl
+blocks_fold (suc n) H m = blocks_fold n (compress H (take 64 m)) (drop 64 m)
 
 -- first n blocks, then k more
 pub blocks_add : (n k : ℕ) (H : State) (m : List ℕ) → blocks (n + k) H m ≡ blocks k (blocks n H m) (drop (64 * n) m)
@@ -43,7 +47,8 @@ tail_first m b r is e =
 
 -- less than a block
 pub blocks_small : (H : State) (m : List ℕ) → length m < 64 → blocks (whole m) H m ≡ H
-blocks_small H m lt = blocks_none (whole m) H m (omega arith)
+unfolding blocks
+blocks_small H m lt = let n : whole m ≡ 0 = omega arith in rw n
 
 pub tail_small : (m : List ℕ) → length m < 64 → tail m ≡ m
 tail_small m lt = let n : 64 * whole m ≡ 0 = omega arith in rw n
@@ -77,10 +82,6 @@ kept_from m t b r n is long e =
 pub filled : (b x head rest full : List ℕ) (u : ℕ) → x ≡ head ++ rest → length b ≤ u + length head → full ≡ take u b ++ (head ++ drop (u + length head) b) → take u b ++ x ≡ full ++ rest
 filled b x head rest full u parts le e =
     rw (e, drop_all (u + length head) b le, append-nil, parts, append_assoc)
-
--- an empty buffer adds nothing
-pub unfilled : (b x head rest : List ℕ) (u : ℕ) → x ≡ head ++ rest → u ≡ 0 → length head ≡ 0 → take u b ++ x ≡ rest
-unfilled b x head rest u parts none short = rw (none, parts, nil_from_length head short)
 
 -- the hasher after one more part
 pub fed_more : (h h' : Hasher) (m xs : List ℕ) → Fed h m → h'.state ≡ blocks (whole (take (h.count % 64) h.buffer ++ xs)) h.state (take (h.count % 64) h.buffer ++ xs) → take ((h.count % 64 + length xs) % 64) h'.buffer ≡ tail (take (h.count % 64) h.buffer ++ xs) → h'.count ≡ (h.count + length xs) % 2 ^ 64 → Fed h' (m ++ xs)

@@ -1,5 +1,5 @@
 -- HMAC-SHA-256 as RFC 2104 defines it, and the tag of 16 bytes that is made of it. Keys and texts are lists of bytes.
-use Rattle.std.specs.Prelude.{ℕ, ◌-◌, Bool, cond, List, ◌++◌, map, length, take, replicate, bit_xor, nat_lt}
+use Rattle.std.specs.Prelude.{◌≡◌, ℕ, ◌-◌, Bool, cond, if◌then◌else◌, ◌==◌, List, ◌++◌, map, length, take, replicate, bit_xor, nat_lt, Result, is_ok}
 use Rattle.std.specs.Str.{bytes_eq}
 use Rattle.sha256.specs.Sha256.{sha256}
 
@@ -38,3 +38,11 @@ tag token covered = take 16 (hmac token covered)
 -- what was given agrees when it is exactly the tag
 unfoldable pub agreed : List ℕ → List ℕ → List ℕ → Bool
 agreed token covered given = bytes_eq (tag token covered) given
+
+-- there is an answer exactly when the work place has the length of a block
+abbrev pub OkAtBlock : {T E : Type 0} → Result T E → List ℕ → Type 0
+OkAtBlock result old = is_ok result ≡ (length old == B)
+
+-- after an answer the work place holds zeros, and after a refusal what it held
+abbrev pub ZeroedOnOk : {T E : Type 0} → Result T E → List ℕ → List ℕ → Type 0
+ZeroedOnOk result old new = new ≡ (if is_ok result then replicate B 0 else old)

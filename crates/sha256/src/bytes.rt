@@ -11,9 +11,7 @@ pub fn same(a: &[u8], b: &[u8]) -> bool
     if a.len() != b.len() {
         return false;
     }
-    let mut difference = 0;
-    for (x, y) in a.iter().zip(b.iter()) {
-        difference |= x ^ y;
-    }
+    // No `==`: it may stop at the first difference.
+    let difference = a.iter().zip(b).fold(0, |so_far, (x, y)| so_far | (x ^ y));
     difference == 0
 }

@@ -4,6 +4,7 @@ ghost use Rattle.std.specs.Prelude.{◌≡◌};
 ghost use Rattle.sha256.specs.Sha256.{H0, digest_of, plus};
 
 /// Eight words: a hash value, or the working variables of the rounds.
+// Eight fields and no array: these are the standard's letters.
 #[derive(Clone, Copy)]
 pub(crate) struct State {
     pub(crate) a: u32,
@@ -18,6 +19,7 @@ pub(crate) struct State {
 
 impl State {
     /// The initial hash value.
+    // A function and no `Default`: the standard's name says more than "default".
     pub(crate) fn initial() -> State
         ensures { result ≡ H0 }
     {
@@ -34,6 +36,7 @@ impl State {
     }
 
     /// The sum of two hash values, word by word.
+    // A method and no `Add`: `+` would hide that the sums wrap.
     pub(crate) fn plus(self, other: State) -> State
         ensures { result ≡ plus self other }
     {
@@ -50,16 +53,16 @@ impl State {
     }
 
     /// The bytes of the hash value, each word's most significant byte first.
+    // A method and no `From`: the name says which bytes, as std's `to_be_bytes`.
     pub(crate) fn to_bytes(self) -> [u8; 32]
         ensures { result ≡ digest_of self }
     {
         let words = [
             self.a, self.b, self.c, self.d, self.e, self.f, self.g, self.h,
         ];
+        let bytes = words.map(u32::to_be_bytes);
         let mut out = [0; 32];
-        for i in 0..8 {
-            out[4 * i..4 * i + 4].copy_from_slice(&words[i].to_be_bytes());
-        }
+        out.copy_from_slice(bytes.as_flattened());
         out
     }
 }

@@ -5,16 +5,13 @@ ghost use Rattle.std.specs.Prelude.{◌≤◌};
 use crate::hasher::Hasher;
 use crate::mac::WorkSize;
 use crate::{agrees, digest, hmac, same};
+use std::array;
 use std::process::Abort;
 use std::test::Fail;
 
 /// The bytes 0 to 64.
 fn counted() -> [u8; 65] {
-    let mut bytes = [0; 65];
-    for i in 0..65 {
-        bytes[i] = i as u8;
-    }
-    bytes
+    array::from_fn(|i| i as u8)
 }
 
 /// The first `len` bytes have this digest, fed in one part and in two.
@@ -119,10 +116,9 @@ fn places(rt: HostRuntime) {
 
 #[test]
 fn given_lengths(rt: HostRuntime) -> Result<(), Fail> {
-    assert_eq!(rt; agreement(&rt, 15)?, false);
-    assert_eq!(rt; agreement(&rt, 16)?, true);
-    assert_eq!(rt; agreement(&rt, 17)?, false);
-    assert_eq!(rt; agreement(&rt, 32)?, false);
+    for (len, answer) in [(15, false), (16, true), (17, false), (32, false)] {
+        assert_eq!(rt; agreement(&rt, len)?, answer);
+    }
     assert!(rt; !same(b"abcd", b"abce") && !same(b"abc", b"abcd"));
     Ok(())
 }

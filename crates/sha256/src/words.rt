@@ -1,7 +1,7 @@
 //! The functions on 32-bit words.
 
-ghost use Rattle.std.specs.Prelude.{◌≡◌};
-ghost use Rattle.sha256.specs.Sha256.{Ch, Maj, Σ0, Σ1, σ0, σ1};
+ghost use Rattle.std.specs.Prelude.{◌≡◌, ◌<◌};
+ghost use Rattle.sha256.specs.Sha256.{Ch, Maj, ROTR, SHR, ◌⊕◌};
 
 /// Chooses the bits of `y` where `x` is set, and those of `z` elsewhere.
 pub(crate) fn choose(x: u32, y: u32, z: u32) -> u32
@@ -17,30 +17,24 @@ pub(crate) fn majority(x: u32, y: u32, z: u32) -> u32
     (x & y) ^ (x & z) ^ (y & z)
 }
 
-/// Σ0 of the rounds.
-pub(crate) fn big_sigma0(x: u32) -> u32
-    ensures { result ≡ Σ0 x }
+/// Σ of the rounds: three rotations.
+#[tactic(auto, using(crate::proofs::Rotations::rotated))]
+pub(crate) fn big_sigma<const A: u32, const B: u32, const C: u32>(x: u32) -> u32
+    requires a_fits { A < 32 }
+    requires b_fits { B < 32 }
+    requires c_fits { C < 32 }
+    ensures { result ≡ ROTR A x ⊕ ROTR B x ⊕ ROTR C x }
 {
-    x.rotate_right(2) ^ x.rotate_right(13) ^ x.rotate_right(22)
+    x.rotate_right(A) ^ x.rotate_right(B) ^ x.rotate_right(C)
 }
 
-/// Σ1 of the rounds.
-pub(crate) fn big_sigma1(x: u32) -> u32
-    ensures { result ≡ Σ1 x }
+/// σ of the schedule: two rotations and a shift.
+#[tactic(auto, using(crate::proofs::Rotations::rotated))]
+pub(crate) fn small_sigma<const A: u32, const B: u32, const C: u32>(x: u32) -> u32
+    requires a_fits { A < 32 }
+    requires b_fits { B < 32 }
+    requires c_fits { C < 32 }
+    ensures { result ≡ ROTR A x ⊕ ROTR B x ⊕ SHR C x }
 {
-    x.rotate_right(6) ^ x.rotate_right(11) ^ x.rotate_right(25)
-}
-
-/// σ0 of the schedule.
-pub(crate) fn small_sigma0(x: u32) -> u32
-    ensures { result ≡ σ0 x }
-{
-    x.rotate_right(7) ^ x.rotate_right(18) ^ (x >> 3)
-}
-
-/// σ1 of the schedule.
-pub(crate) fn small_sigma1(x: u32) -> u32
-    ensures { result ≡ σ1 x }
-{
-    x.rotate_right(17) ^ x.rotate_right(19) ^ (x >> 10)
+    x.rotate_right(A) ^ x.rotate_right(B) ^ (x >> C)
 }

@@ -2,10 +2,10 @@
 use Rattle.std.specs.Prelude.{ℕ, List, Ok, Err, Result}
 use Rattle.credential.specs.Rec.{Rec}
 use Rattle.steps.specs.declared.adding.PartWords.{PartWords}
-use Rattle.steps.specs.declared.wrong.Wrong.{Wrong}
-use Rattle.steps.specs.declared.wrong.Wrong.TheVariants as wrong
-use Rattle.steps.specs.Answered.{and_then}
-use Rattle.steps.specs.Values.{headed, single, spelled, byte}
+use Rattle.bench.specs.declared.wrong.Wrong.{Wrong}
+use Rattle.bench.specs.declared.wrong.Wrong.TheVariants as wrong
+use Rattle.bench.specs.Answered.{and_then}
+use Rattle.bench.specs.Values.{headed, single, spelled, byte}
 
 -- the words of add, one for each part of a record
 pub record Eight : Type 0 where

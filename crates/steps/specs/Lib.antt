@@ -1,5 +1,3 @@
-pub mod Answered
 pub mod Asked
 pub mod Eight
-pub mod Values
-pub mod Worded
+pub mod Kinds

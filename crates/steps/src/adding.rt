@@ -2,13 +2,12 @@
 
 ghost use Rattle.std.specs.Prelude.{◌≡◌};
 ghost use Rattle.lines.specs.Line.{words_of};
-ghost use Rattle.steps.specs.Answered.{Answers};
-ghost use Rattle.steps.specs.Asked.{meant, whole, add_of};
+ghost use Rattle.bench.specs.Answered.{Answers};
+ghost use Rattle.steps.specs.Asked.{store_meant, whole, add_of};
 ghost use Rattle.steps.specs.Eight.{eight, recorded, told_eight, eight_of};
 
-use crate::step::{Parts, Step};
-use crate::values::{byte, bytes, last, next};
-use crate::wrong::Wrong;
+use crate::step::{Parts, StoreStep};
+use bench::{Wrong, byte, bytes, last, next};
 use lines::Words;
 use std::alloc::Global;
 
@@ -25,14 +24,15 @@ struct PartWords<'a> {
     y: &'a [u8],
 }
 
-pub(crate) fn add(heap: Global, rest: Option<&[u8]>) -> Result<Step, Wrong>
-    ensures answer { Answers meant result (add_of (words_of rest.entry)) }
+pub(crate) fn add(heap: Global, rest: Option<&[u8]>) -> Result<StoreStep, Wrong>
+    ensures answer { Answers store_meant result (add_of (words_of rest.entry)) }
 {
     let words = part_words(rest)?;
-    Ok(Step::Add(parts(heap, words)?))
+    Ok(StoreStep::Add(parts(heap, words)?))
 }
 
 /// The next eight words, where they are the last.
+#[tactic(auto, unfolding(crate::specs::Eight::eight))]
 fn part_words(rest: Option<&[u8]>) -> Result<PartWords<'_>, Wrong>
     ensures answer { told_eight result ≡ eight (words_of rest.entry) }
 {
@@ -69,6 +69,7 @@ fn part_words(rest: Option<&[u8]>) -> Result<PartWords<'_>, Wrong>
 }
 
 /// The parts that words spell.
+#[tactic(auto, unfolding(crate::specs::Eight::recorded))]
 fn parts(heap: Global, words: PartWords<'_>) -> Result<Parts, Wrong>
     ensures answer { Answers whole result (recorded (eight_of words.entry)) }
 {

@@ -1,13 +1,11 @@
-//! The steps of the bench: what a line asks for, and what can be wrong with it.
+//! All steps, those of `bench` and those over a store: the lines that ask for them.
 
 #![tactic(auto)]
 
 mod adding;
+mod kinds;
 mod parsing;
 mod step;
-mod values;
-mod wrong;
 
-pub use parsing::parse;
-pub use step::{Parts, Step};
-pub use wrong::Wrong;
+pub use parsing::{Name, parse};
+pub use step::{Parts, Step, StoreStep};

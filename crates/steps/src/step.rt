@@ -1,34 +1,27 @@
-//! A step with its values.
+//! A step, with its values.
 
+ghost use Rattle.std.specs.Prelude.{◌≡◌};
+ghost use Rattle.credential.specs.Model.{given};
+ghost use Rattle.steps.specs.Asked.{whole};
+
+use credential::Fields;
 use image::Kind;
 
+/// A step: one that every bench has, or one over a store.
 #[derive(Drop)]
 pub enum Step {
-    Digest(Vec<u8>),
-    Hmac {
-        key: Vec<u8>,
-        message: Vec<u8>,
-    },
-    Tag {
-        token: Vec<u8>,
-        sub: u8,
-        params: Vec<u8>,
-    },
-    Read(Vec<u8>),
-    Explain(Vec<u8>),
-    Blank {
-        kind: Kind,
-        slots: u64,
-    },
-    Open {
-        kind: Kind,
-        image: Vec<u8>,
-    },
+    Plain(bench::Step),
+    Store(StoreStep),
+}
+
+#[derive(Drop)]
+pub enum StoreStep {
+    Blank { kind: Kind, slots: u64 },
+    Open { kind: Kind, image: Vec<u8> },
     Add(Parts),
     Remove(u64),
     List,
     Image,
-    Help,
 }
 
 /// The parts of a record, of any length.
@@ -42,4 +35,21 @@ pub struct Parts {
     pub credential_id: Vec<u8>,
     pub x: Vec<u8>,
     pub y: Vec<u8>,
+}
+
+impl<'a> From<&'a Parts> for Fields<'a> {
+    ghost from_gives = { λ parts fields. given fields ≡ whole parts.now };
+
+    fn from(parts: &'a Parts) -> Fields<'a> {
+        Fields {
+            rp_id: &parts.rp_id,
+            user_id: &parts.user_id,
+            name: &parts.name,
+            display_name: &parts.display_name,
+            credential_id: &parts.credential_id,
+            x: &parts.x,
+            y: &parts.y,
+            cred_protect: parts.protect,
+        }
+    }
 }

@@ -4,9 +4,9 @@ use Rattle.credential.specs.Rec.{Rec}
 use Rattle.image.specs.declared.kind.Kind.{Kind}
 use Rattle.image.specs.Opening.{listing, records_of}
 use Rattle.lines.specs.Hex.{bytes_line}
-use Rattle.steps.specs.declared.wrong.Wrong.{Wrong}
-use Rattle.steps.specs.declared.wrong.Wrong.TheVariants.{NoStore}
-use Rattle.steps.specs.Answered.{and_then}
+use Rattle.bench.specs.declared.wrong.Wrong.{Wrong}
+use Rattle.bench.specs.declared.wrong.Wrong.TheVariants.{NoStore}
+use Rattle.bench.specs.Answered.{and_then}
 use Rattle.storebench.specs.Said.{fills, add_answer, remove_answer}
 use Rattle.image.specs.Kinds.{capacity_of}
 use Rattle.storebench.specs.State.{State, shut, holding}

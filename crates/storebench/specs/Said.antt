@@ -3,11 +3,11 @@ use Rattle.std.specs.Prelude.{ℕ, Bool, true, false, List, length, Ok, Err, Res
 use Rattle.credential.specs.Rec.{Rec, is_within}
 use Rattle.image.specs.declared.kind.Kind.{Kind}
 use Rattle.image.specs.declared.opening.Refusal.{Refusal}
-use Rattle.steps.specs.declared.wrong.Wrong.{Wrong}
-use Rattle.steps.specs.declared.wrong.Wrong.TheVariants.{NoStore}
-use Rattle.storebench.specs.declared.calls.Added.{Added}
-use Rattle.storebench.specs.declared.calls.Added.TheVariants.{Yes, No, Outside}
-use Rattle.storebench.specs.declared.calls.Fill.{Fill}
+use Rattle.bench.specs.declared.wrong.Wrong.{Wrong}
+use Rattle.bench.specs.declared.wrong.Wrong.TheVariants.{NoStore}
+use Rattle.storebench.specs.declared.adding.AddError.{AddError}
+use Rattle.storebench.specs.declared.adding.AddError.TheVariants.{Full, OutsideLimits}
+use Rattle.storebench.specs.declared.fill.Fill.{Fill}
 use Rattle.image.specs.Kinds.{capacity_of}
 use Rattle.storebench.specs.State.{State, shut, holding, has_room, has_place}
 
@@ -22,13 +22,13 @@ filled (Ok f) = Ok (f.count, f.capacity)
 filled (Err why) = Err why
 
 -- what comes of adding, by whether a record is within its limits, and whether there is room
-abbrev pub added_by : Bool → Bool → Added
-added_by false room = Outside
-added_by true false = No
-added_by true true = Yes
+abbrev pub added_by : Bool → Bool → Result (Unit {0}) AddError
+added_by false room = Err OutsideLimits
+added_by true false = Err Full
+added_by true true = Ok tt
 
 -- the answer to adding a record
-unfoldable pub add_answer : State → Rec → Result Added Wrong
+unfoldable pub add_answer : State → Rec → Result (Result (Unit {0}) AddError) Wrong
 add_answer shut r = Err NoStore
 add_answer (holding kind im) r = Ok (added_by (is_within r) (has_room kind im))
 

@@ -1,10 +1,10 @@
 -- The store that is open, and what the steps make of it.
-use Rattle.std.specs.Prelude.{ℕ, ◌*◌, Bool, cond, ◌&&◌, List, length, replicate, Ok, Err, Result, nat_lt}
+use Rattle.std.specs.Prelude.{ℕ, ◌*◌, Bool, if◌then◌else◌, ◌&&◌, List, length, replicate, Some, None, Ok, Err, Option, Result, Vec, vec_items, nat_lt}
+use Rattle.std.specs.declared.alloc.Global.{Global}
 use Rattle.credential.specs.Rec.{Rec, is_within}
 use Rattle.image.specs.declared.kind.Kind.{Kind}
 use Rattle.image.specs.declared.kind.Kind.TheVariants.{Table, Log}
 use Rattle.image.specs.declared.opening.Refusal.{Refusal}
-use Rattle.image.specs.Cut.{bytes_of}
 use Rattle.image.specs.Kinds.{capacity_of}
 use Rattle.image.specs.Opening.{listing, records_of}
 use Rattle.logstore.specs.Log as log
@@ -17,11 +17,24 @@ pub data State : Type 0 where
   shut : State
   holding : Kind → List ℕ → State
 
+-- the kind of a store
+abbrev pub kind_of : Held → Kind
+kind_of (held.Table t) = Table
+kind_of (held.Log l) = Log
+
+-- the image of a store
+abbrev pub image_of : Held → Vec ℕ Global
+image_of (held.Table t) = t
+image_of (held.Log l) = l
+
+-- the state of a store
+abbrev pub store_of : Held → State
+store_of h = holding (kind_of h) (vec_items (image_of h))
+
 -- the state that the code holds
-abbrev pub state_of : Held → State
-state_of held.Nothing = shut
-state_of (held.Table t) = holding Table (bytes_of t.image)
-state_of (held.Log l) = holding Log (bytes_of l.image)
+abbrev pub state_of : Option Held → State
+state_of None = shut
+state_of (Some h) = store_of h
 
 -- one record more can be added
 abbrev pub has_room : Kind → List ℕ → Bool
@@ -57,9 +70,9 @@ after_open kind im before = after_listing kind im before (listing kind im)
 -- the state after a record was to be added
 unfoldable pub after_add : State → Rec → State
 after_add shut r = shut
-after_add (holding kind im) r = holding kind (cond (is_within r && has_room kind im) (extended kind im r) im)
+after_add (holding kind im) r = holding kind (if is_within r && has_room kind im then extended kind im r else im)
 
 -- the state after the record at a place was to be removed
 unfoldable pub after_remove : State → ℕ → State
 after_remove shut place = shut
-after_remove (holding kind im) place = holding kind (cond (has_place kind im place) (reduced kind im place) im)
+after_remove (holding kind im) place = holding kind (if has_place kind im place then reduced kind im place else im)

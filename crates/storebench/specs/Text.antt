@@ -4,23 +4,32 @@ use Rattle.credential.specs.Rec.{Rec}
 use Rattle.image.specs.declared.opening.Refusal.{Refusal}
 use Rattle.image.specs.Opening.{code, place_of}
 use Rattle.lines.specs.Hex.{encoded}
-use Rattle.storebench.specs.declared.calls.Added.{Added}
-use Rattle.storebench.specs.declared.calls.Added.TheVariants.{Yes, No, Outside}
+use Rattle.storebench.specs.declared.adding.AddError.{AddError}
+use Rattle.storebench.specs.declared.adding.AddError.TheVariants.{Full, OutsideLimits}
 
--- how many records there are, of how many there can be, at the end of a line
+-- how many records there are, of how many there can be
+abbrev pub fill_text : ℕ → ℕ → List ℕ
+fill_text count capacity = decimal count ++ (codes " of " ++ decimal capacity)
+
+-- the same at the end of a line
 abbrev pub of_line : ℕ → ℕ → List ℕ
-of_line count capacity = decimal count ++ (codes " of " ++ (decimal capacity ++ codes "\n"))
+of_line count capacity = fill_text count capacity ++ codes "\n"
 
 -- the line of an opening
 abbrev pub open_line : Result (ℕ × ℕ) Refusal → List ℕ
 open_line (Ok fill) = codes "open: 0x00 place 0, " ++ of_line fill.0 fill.1
 open_line (Err why) = codes "open: 0x" ++ (encoded (code why ∷ []) ++ (codes " place " ++ (decimal (place_of why) ++ codes "\n")))
 
+-- why a record is not added
+abbrev pub refusal_word : AddError → List ℕ
+refusal_word Full = codes "no"
+refusal_word OutsideLimits = codes "0x02"
+
 -- the line of adding a record
-abbrev pub add_line : Added → List ℕ
-add_line Yes = codes "add: yes\n"
-add_line No = codes "add: no\n"
-add_line Outside = codes "add: 0x02\n"
+abbrev pub add_line : Result (Unit {0}) AddError → List ℕ
+add_line (Ok done) = codes "add: yes\n"
+add_line (Err Full) = codes "add: no\n"
+add_line (Err OutsideLimits) = codes "add: 0x02\n"
 
 -- the line of removing a record
 abbrev pub remove_line : Bool → List ℕ

@@ -2,8 +2,9 @@
 
 #![tactic(auto)]
 
-mod calls;
+mod adding;
 mod carrying;
+mod fill;
 mod held;
 mod text;
 

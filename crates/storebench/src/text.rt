@@ -1,26 +1,27 @@
 //! The lines that the steps over a store print.
 
-ghost use Rattle.std.specs.Prelude.{◌≡◌, ◌++◌, IfOk, string_bytes, OnOk};
-ghost use Rattle.credential.specs.Model.{model};
+ghost use Rattle.std.specs.Prelude.{◌≡◌, Some, IfOk, string_bytes, is_ok};
+ghost use Rattle.credential.specs.Model.{given};
 ghost use Rattle.storebench.specs.Said.{filled};
-ghost use Rattle.storebench.specs.Text.{open_line, add_line, remove_line, word, record_line, list_text};
+ghost use Rattle.storebench.specs.Text.{open_line, add_line, remove_line, record_line, list_text};
 
-use crate::calls::{Added, Fill, fill_of};
-use credential::{OutsideLimits, Record, Store};
+use crate::adding::AddError;
+use crate::fill::Fill;
+use credential::{Fields, NoRecord, Record, Store};
 use image::Refusal;
-use lines::hex;
+use lines::hex::Hex;
 use std::alloc::{AllocError, Global};
+use std::fmt;
 
 /// The line of an opening.
 pub(crate) fn open_line(heap: Global, opening: Result<Fill, Refusal>) -> Result<String, AllocError>
     ensures text { IfOk result (λ s. string_bytes s ≡ open_line (filled opening)) }
 {
     match opening {
-        Ok(Fill { count, capacity }) => {
-            format!(in heap; "open: 0x00 place 0, {count} of {capacity}\n")
-        }
+        Ok(fill) => format!(in heap; "open: 0x00 place 0, {fill}\n"),
         Err(why) => {
-            let status = hex::encode(heap, &[why.status()])?;
+            let status = [why.status()];
+            let status = Hex(&status);
             let place = why.place();
             format!(in heap; "open: 0x{status} place {place}\n")
         }
@@ -28,27 +29,22 @@ pub(crate) fn open_line(heap: Global, opening: Result<Fill, Refusal>) -> Result<
 }
 
 /// The line of adding a record.
-pub(crate) fn add_line(heap: Global, added: Added) -> Result<String, AllocError>
+pub(crate) fn add_line(heap: Global, added: Result<(), AddError>) -> Result<String, AllocError>
     ensures text { IfOk result (λ s. string_bytes s ≡ add_line added) }
 {
     match added {
-        Added::Yes => String::from_str(heap, "add: yes\n"),
-        Added::No => String::from_str(heap, "add: no\n"),
-        Added::Outside => {
-            let status = hex::encode(heap, &[OutsideLimits.status()])?;
-            format!(in heap; "add: 0x{status}\n")
-        }
+        Ok(()) => String::from_str(heap, "add: yes\n"),
+        Err(why) => format!(in heap; "add: {why}\n"),
     }
 }
 
 /// The line of removing a record.
-pub(crate) fn remove_line(heap: Global, removed: bool) -> Result<String, AllocError>
-    ensures text { IfOk result (λ s. string_bytes s ≡ remove_line removed) }
+pub(crate) fn remove_line(heap: Global, removed: Result<(), NoRecord>) -> Result<String, AllocError>
+    ensures text { IfOk result (λ s. string_bytes s ≡ remove_line (is_ok removed)) }
 {
-    if removed {
-        String::from_str(heap, "remove: yes\n")
-    } else {
-        String::from_str(heap, "remove: no\n")
+    match removed {
+        Ok(()) => String::from_str(heap, "remove: yes\n"),
+        Err(NoRecord) => String::from_str(heap, "remove: no\n"),
     }
 }
 
@@ -58,41 +54,37 @@ pub(crate) fn list_text<S: Store>(heap: Global, store: &S) -> Result<String, All
 {
     let mut text = String::new(heap);
     let mut record = Record::blank();
+    // By place: a store copies a record into the one that the caller gives, so there is no item to iterate over.
     for place in 0..store.count() {
-        let _ = store.read(place, &mut record);
-        let line = record_line(heap, place, &record)?;
-        text.push_str(line.as_str())?;
+        store.read(place, &mut record).unwrap();
+        let fields = record.fields();
+        let line = Line { place, fields }.to_string(heap)?;
+        text.push_str(&line)?;
     }
-    let Fill { count, capacity } = fill_of(store);
-    let last = format!(in heap; "list: {count} of {capacity}\n")?;
-    text.push_str(last.as_str())?;
+    let fill = Fill::of(store);
+    let last = format!(in heap; "list: {fill}\n")?;
+    text.push_str(&last)?;
     Ok(text)
 }
 
 /// The line of the record at a place.
-fn record_line(heap: Global, place: usize, of: &Record) -> Result<String, AllocError>
-    ensures text { IfOk result (λ s. string_bytes s ≡ record_line place (model of.now)) }
-{
-    let fields = of.fields();
-    let protect = fields.cred_protect;
-    let mut line = format!(in heap; "record {place}: {protect}")?;
-    push_word(heap, &mut line, fields.rp_id)?;
-    push_word(heap, &mut line, fields.user_id)?;
-    push_word(heap, &mut line, fields.name)?;
-    push_word(heap, &mut line, fields.display_name)?;
-    push_word(heap, &mut line, fields.credential_id)?;
-    push_word(heap, &mut line, fields.x)?;
-    push_word(heap, &mut line, fields.y)?;
-    line.push_str("\n")?;
-    Ok(line)
+#[derive(Clone, Copy)]
+struct Line<'a> {
+    place: usize,
+    fields: Fields<'a>,
 }
 
-/// Writes a space and then bytes behind a line.
-fn push_word(heap: Global, line: &mut String, bytes: &[u8]) -> Result<(), AllocError>
-    ensures text { OnOk result (string_bytes line.new ≡ string_bytes line.old ++ word bytes.now) }
-{
-    let digits = hex::encode(heap, bytes)?;
-    line.push_str(" ")?;
-    line.push_str(digits.as_str())?;
-    Ok(())
+impl fmt::Display for Line<'_> {
+    ghost output = { λ line. Some (record_line line.place (given line.fields)) };
+
+    #[tactic(auto, unfolding(crate::specs::Text::record_line))]
+    fn fmt<W: fmt::Write>(&self, f: &mut fmt::Formatter<W>) -> fmt::Result {
+        let fields = self.fields;
+        let (rp_id, user_id) = (Hex(fields.rp_id), Hex(fields.user_id));
+        let (name, display_name) = (Hex(fields.name), Hex(fields.display_name));
+        let (credential_id, x, y) = (Hex(fields.credential_id), Hex(fields.x), Hex(fields.y));
+        write!(f, "record {}: {}", self.place, fields.cred_protect)?;
+        write!(f, " {rp_id} {user_id} {name} {display_name}")?;
+        writeln!(f, " {credential_id} {x} {y}")
+    }
 }

@@ -1,24 +1,13 @@
 -- Slots with entries in front and free ones behind them: one entry less, and one that is read.
 use Rattle.std.specs.Prelude.{◌≡◌, ℕ, suc, ◌-◌, ◌<◌, ◌≤◌, List, [], ◌∷◌, ◌++◌, map, length, take, drop, replicate, slice_index_or}
-use Rattle.std.proofs.Common.{sym, ap, ◌∙◌, arith}
+use Rattle.std.proofs.Common.{ap, ◌∙◌, arith}
 use Rattle.std.specs.List.{remove}
-use Rattle.std.proofs.lemmas.List.Edits.{length-remove}
-use Rattle.std.proofs.lemmas.List.{append_assoc, length-map, map-append, take-map, drop-map, take_at, drop_at, take-append-le, drop-append-le, get_or_append_left, get_or-map}
+use Rattle.std.proofs.lemmas.List.Edits.{length-remove, remove-append_left}
+use Rattle.std.proofs.lemmas.List.{length-map, take_at, drop_at, get_or_append_left, get_or-map}
 use Rattle.credential.specs.Slot.{Entry, free, written}
 use Rattle.image.proofs.Imaged.{layout}
+use Rattle.image.proofs.Led.{map_removed}
 use Rattle.table.specs.Tables.{closed}
-
-pub map_removed : {X Y : Type 0} (f : X → Y) (xs : List X) (place : ℕ) → remove (map f xs) place ≡ map f (remove xs place)
-map_removed f xs place =
-    ap (λ l. l ++ drop (suc place) (map f xs)) (take-map f place xs)
-    ∙ ap (λ l. map f (take place xs) ++ l) (drop-map f (suc place) xs)
-    ∙ sym (map-append f (take place xs) (drop (suc place) xs))
-
-removed_front : (ys zs : List (List ℕ)) (place : ℕ) → place < length ys → remove (ys ++ zs) place ≡ remove ys place ++ zs
-removed_front ys zs place lt =
-    ap (λ l. l ++ drop (suc place) (ys ++ zs)) (take-append-le place ys zs (omega arith))
-    ∙ ap (λ l. take place ys ++ l) (drop-append-le (suc place) ys zs (omega arith))
-    ∙ sym (append_assoc (take place ys) (drop (suc place) ys) zs)
 
 -- the gap of an entry is closed
 pub layout_less : (slots : ℕ) (es : List Entry) (place : ℕ) → length es ≤ slots → place < length es → closed (layout slots es) place (length es) ≡ layout slots (remove es place)
@@ -30,7 +19,7 @@ layout_less slots es place le lt =
     let nr = length-remove ys place (omega arith) in
     let nx = length-remove es place lt in
     let k : suc (slots - length es) ≡ slots - length (remove es place) = omega arith in
-    ap (λ l. take (length es - 1) l ++ free ∷ drop (length es) (ys ++ zs)) (removed_front ys zs place (omega arith))
+    ap (λ l. take (length es - 1) l ++ free ∷ drop (length es) (ys ++ zs)) (remove-append_left ys zs place (omega arith))
     ∙ ap (λ l. l ++ free ∷ drop (length es) (ys ++ zs)) (take_at (remove ys place) zs (length es - 1) (omega arith))
     ∙ ap (λ l. remove ys place ++ free ∷ l) (drop_at ys zs (length es) ny)
     ∙ ap (λ l. l ++ replicate (suc (slots - length es)) free) (map_removed written es place)

@@ -1,5 +1,5 @@
 -- The image of a table: a function of the number of slots and the records.
-use Rattle.std.specs.Prelude.{ℕ, ◌-◌, ◌/◌, Bool, List, [], ◌∷◌, ◌++◌, map, length, take, drop, is_ok}
+use Rattle.std.specs.Prelude.{◌≡◌, ℕ, ◌-◌, ◌/◌, Bool, true, List, [], ◌∷◌, ◌++◌, map, length, take, drop, is_ok}
 use Rattle.std.specs.List.{remove}
 use Rattle.credential.specs.Rec.{Rec}
 use Rattle.credential.specs.Slot.{put, free}
@@ -19,6 +19,11 @@ is_table im = is_ok (opened Table im)
 -- the records of a table's image
 abbrev pub records_in : List ℕ → List Rec
 records_in im = records_of Table im
+
+-- the image is that of a table with so many records
+pub record IsTableOf (im : List ℕ) (count : ℕ) : Type 0 where
+  pub opens : is_table im ≡ true
+  pub listed : length (records_in im) ≡ count
 
 -- the image of so many slots with these records in front, and free slots behind them
 abbrev pub tabled : ℕ → List Rec → List ℕ

@@ -1,7 +1,7 @@
 //! How a gap between the slots is closed.
 
 ghost use Rattle.std.specs.Prelude.{◌≡◌, ◌<◌, ◌≤◌, length};
-ghost use Rattle.image.specs.Cut.{cells};
+ghost use Rattle.image.specs.Cut.{bytes_of, cells};
 ghost use Rattle.table.specs.Tables.{closed};
 
 use image::Image;
@@ -11,9 +11,8 @@ pub(crate) fn close(image: &mut Image, place: usize, count: usize)
     requires place { place < count }
     requires count { count ≤ length (cells image.old) }
     ensures slots { cells image.new ≡ closed (cells image.old) place count }
+    ensures kept { length (bytes_of image.new) ≡ length (bytes_of image.old) }
 {
-    for k in place + 1..count {
-        image.copy(k, k - 1);
-    }
+    image.copy_within(place + 1..count, place);
     image.clear(count - 1);
 }

@@ -3,9 +3,9 @@
 #![tactic(auto)]
 
 mod closing;
-mod methods;
 mod table;
 #[cfg(test)]
 mod tests;
 
+pub use image::ImageStore;
 pub use table::Table;

@@ -1,7 +1,10 @@
 //! Sizes of images, and a table of two slots.
 
+// `opens`, `sizes` and `named` are three short functions of both stores' tests: a shared one would be public only for tests.
+
 use crate::Table;
-use credential::{Fields, OutsideLimits, Record, SLOT, Store};
+use credential::{Fields, Full, NoRecord, OutsideLimits, Record, SLOT, Store};
+use image::ImageStore;
 use sha256::same;
 use std::alloc::{AllocError, Global};
 use std::test::Fail;
@@ -35,8 +38,10 @@ fn two_slots(rt: HostRuntime) -> Result<(), Fail> {
     let Ok(mut table) = Table::open(vec![in rt.alloc(); 0; 2 * SLOT]?) else {
         return Err(Fail::new("two free slots"));
     };
-    assert!(rt; table.add(&first) && table.add(&second) && !table.add(&first));
-    assert!(rt; !table.remove(2) && table.remove(0) && table.count() == 1);
+    assert!(rt; table.add(&first).is_ok() && table.add(&second).is_ok());
+    assert_eq!(rt; table.add(&first), Err(Full));
+    assert_eq!(rt; table.remove(2), Err(NoRecord));
+    assert!(rt; table.remove(0).is_ok() && table.count() == 1);
     let image = table.bytes();
     assert!(rt; image.len() == 2 * SLOT);
     assert!(rt; same(&image[0..SLOT], &second.to_slot()));

@@ -5,8 +5,9 @@
 ghost use Rattle.sha256.specs.Hmac.{hmac as mac, tag as cut};
 ghost use Rattle.std.specs.Prelude.{◌≡◌, ◌∷◌};
 
+use lines::hex::Hex;
 use sha256::{digest, hmac, tag};
-use std::{fmt, io};
+use std::io;
 
 /// FIPS 180-4's message of two blocks.
 const TWO_BLOCKS: &[u8] = b"abcdbcdecdefdefgefghfghighijhijkijkljklmklmnlmnomnopnopq";
@@ -21,19 +22,6 @@ const LARGE_KEY: &[u8] = b"Test Using Larger Than Block-Size Key - Hash Key Firs
 /// The text of case 7.
 const LARGE_KEY_AND_DATA: &[u8] =
     b"This is a test using a larger than block-size key and a larger than block-size data. The key needs to be hashed before being used by the HMAC algorithm.";
-
-/// Bytes, shown as two hexadecimal digits each.
-#[derive(Drop)]
-struct Hex<'a>(&'a [u8]);
-
-impl fmt::Display for Hex<'_> {
-    fn fmt<W: fmt::Write>(&self, f: &mut fmt::Formatter<W>) -> fmt::Result {
-        for byte in self.0 {
-            write!(f, "{byte:02x}")?;
-        }
-        Ok(())
-    }
-}
 
 fn main(rt: HostRuntime) -> io::Result<()> {
     digests(&rt)?;
@@ -51,26 +39,26 @@ fn digests(rt: &HostRuntime) -> io::Result<()> {
 
 /// RFC 4231: cases 1 to 7. Case 5 is cut to 128 bits.
 fn codes(rt: &HostRuntime) -> io::Result<()> {
-    show_code(rt, 1, &[0x0b; 20], b"Hi There")?;
-    show_code(rt, 2, b"Jefe", b"what do ya want for nothing?")?;
-    show_code(rt, 3, &[0xaa; 20], &[0xdd; 50])?;
-    show_code(rt, 4, COUNTED_KEY, &[0xcd; 50])?;
-    let short = short_code(&[0x0c; 20], b'T', b"est With Truncation");
-    let hex = Hex(&short);
-    println!(rt; "HMAC-SHA-256 case 5: {hex}")?;
-    show_code(rt, 6, &[0xaa; 131], LARGE_KEY)?;
-    show_code(rt, 7, &[0xaa; 131], LARGE_KEY_AND_DATA)
+    show_code(rt, 1, &code(&[0x0b; 20], b"Hi There"))?;
+    show_code(rt, 2, &code(b"Jefe", b"what do ya want for nothing?"))?;
+    show_code(rt, 3, &code(&[0xaa; 20], &[0xdd; 50]))?;
+    show_code(rt, 4, &code(COUNTED_KEY, &[0xcd; 50]))?;
+    show_code(
+        rt,
+        5,
+        &short_code(&[0x0c; 20], b'T', b"est With Truncation"),
+    )?;
+    show_code(rt, 6, &code(&[0xaa; 131], LARGE_KEY))?;
+    show_code(rt, 7, &code(&[0xaa; 131], LARGE_KEY_AND_DATA))
 }
 
 fn show_digest(rt: &HostRuntime, name: &str, message: &[u8]) -> io::Result<()> {
-    let digest = digest(message);
-    let hex = Hex(&digest);
+    let hex = Hex(&digest(message));
     println!(rt; "SHA-256 of {name}: {hex}")
 }
 
-fn show_code(rt: &HostRuntime, case: u8, key: &[u8], text: &[u8]) -> io::Result<()> {
-    let code = code(key, text);
-    let hex = Hex(&code);
+fn show_code(rt: &HostRuntime, case: u8, code: &[u8]) -> io::Result<()> {
+    let hex = Hex(code);
     println!(rt; "HMAC-SHA-256 case {case}: {hex}")
 }
 
@@ -80,10 +68,7 @@ fn code(key: &[u8], text: &[u8]) -> [u8; 32]
 {
     let mut work = [0; 64];
     let (first, rest) = text.split_at(text.len() / 2);
-    match hmac(key, first, rest, &mut work) {
-        Ok(whole) => whole,
-        Err(_) => unreachable(),
-    }
+    hmac(key, first, rest, &mut work).unwrap()
 }
 
 /// The HMAC of a text, cut to 128 bits.
@@ -91,8 +76,5 @@ fn short_code(key: &[u8], first: u8, rest: &[u8]) -> [u8; 16]
     ensures { result ≡ cut key.now (first ∷ rest.now) }
 {
     let mut work = [0; 64];
-    match tag(key, first, rest, &mut work) {
-        Ok(short) => short,
-        Err(_) => unreachable(),
-    }
+    tag(key, first, rest, &mut work).unwrap()
 }

@@ -1,36 +1,35 @@
-use Rattle.std.proofs.Common.{◌≡◌, true, false, vec_items, sym, refl, ap, ◌∙◌, arith}
+use Rattle.std.proofs.Common.{◌≡◌, ℕ, Bool, List, sym, ap, ◌∙◌, arith}
+use Rattle.image.specs.declared.kind.Kind.{Kind}
 use Rattle.image.specs.Kinds.{fits}
 use Rattle.image.specs.Opening.{counts}
-use Rattle.image.proofs.Accepted.{exactly}
-use Rattle.image.proofs.Prefixes.{first}
-use Rattle.image.proofs.Sizes.{sized, opened_unfitting, answer_is}
+use Rattle.image.proofs.Sizes.{sized, opened_unfitting, opened-image}
 use Rattle.image.proofs.opening.open.Goals as goal
 
-pub returns-then-not-fits : goal.returns-then-not-fits
-returns-then-not-fits c =
+-- whether the image fits, by the bytes that were lent
+fits_told : {lent im : List ℕ} {ok : Bool} (kind : Kind) → lent ≡ im → ok ≡ fits kind lent → fits kind im ≡ ok
+fits_told kind same is = ap (fits kind) (sym same) ∙ sym is
+
+pub returns-then-not-fits-clause-answer : goal.returns-then-not-fits-clause-answer
+returns-then-not-fits-clause-answer c =
     let kind = c.args.kind in
-    let im = vec_items c.args.bytes in
-    let unfit : fits kind im ≡ false = ap (fits kind) (sym c.deref.ensures.value) ∙ sym c.if-not-fits.ensures in
-    record { answer = sym (ap counts (opened_unfitting kind im unfit)); image = refl; exactly = exactly kind im; first = first kind im }
+    let unfit = fits_told kind c.deref.ensures.value c.if-not-fits.ensures in
+    sym (ap counts (opened_unfitting kind _ unfit))
 
 pub invariant_of-image : goal.invariant_of-image
 invariant_of-image c =
     let kind = c.args.kind in
-    let im = vec_items c.args.bytes in
-    let fit : fits kind im ≡ true = ap (fits kind) (sym c.deref.ensures.value) ∙ sym c.if-not-fits.ensures in
-    let size = sized kind im fit in
-    record { sized = omega (arith, c.args.bytes.ok); few = omega (arith, c.args.bytes.ok) }
+    let fit = fits_told kind c.deref.ensures.value c.if-not-fits.ensures in
+    let size = sized kind _ fit in
+    record { whole = omega (arith, size.long); few = size.few }
 
-pub returns-in-Ok : goal.returns-in-Ok
-returns-in-Ok c =
+pub returns-in-Ok-clause-answer : goal.returns-in-Ok-clause-answer
+returns-in-Ok-clause-answer c =
     let kind = c.args.kind in
-    let im = vec_items c.args.bytes in
-    let fit : fits kind im ≡ true = ap (fits kind) (sym c.deref.ensures.value) ∙ sym c.if-not-fits.ensures in
-    record { answer = answer_is kind _ _ fit c.in-Ok.ensures; image = refl; exactly = exactly kind im; first = first kind im }
+    let fit = fits_told kind c.deref.ensures.value c.if-not-fits.ensures in
+    c.in-Ok.ensures ∙ sym (ap counts (opened-image kind c.args.bytes fit))
 
-pub returns-in-Err : goal.returns-in-Err
-returns-in-Err c =
+pub returns-in-Err-clause-answer : goal.returns-in-Err-clause-answer
+returns-in-Err-clause-answer c =
     let kind = c.args.kind in
-    let im = vec_items c.args.bytes in
-    let fit : fits kind im ≡ true = ap (fits kind) (sym c.deref.ensures.value) ∙ sym c.if-not-fits.ensures in
-    record { answer = answer_is kind _ _ fit c.in-Err.ensures; image = c.into_bytes.ensures.answer; exactly = exactly kind im; first = first kind im }
+    let fit = fits_told kind c.deref.ensures.value c.if-not-fits.ensures in
+    c.in-Err.ensures ∙ sym (ap counts (opened-image kind c.args.bytes fit))

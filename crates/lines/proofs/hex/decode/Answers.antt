@@ -1,54 +1,53 @@
-use Rattle.std.proofs.Common.{vec_items, sym, ◌∙◌, arith}
+use Rattle.std.proofs.Common.{◌/◌, ◌<◌, length, vec_items, sym, ◌∙◌, arith}
 use Rattle.std.proofs.lemmas.Bool.{eqb-true, eqb-false}
-use Rattle.std.proofs.lemmas.Bool.Decides.{not_from_Decides}
-use Rattle.lines.proofs.Spelling.{read_dash, read-empty, read_odd, read_none, read_no_high, read_no_low, read_more, read_all, spells}
+use Rattle.lines.proofs.Spelling.{is_dash, no_dash, read_dash, read-empty, read_odd, read_none, read_no_high, read_no_low, read_more, read_all, spells, chunk_high, chunk_low}
 use Rattle.lines.proofs.hex.decode.Goals as goal
-use Rattle.lines.proofs.hex.decode.Goals.{then-is_empty-via-then-is_empty, then-is_empty-via-else-is_empty+then-text-ne0}
+use Rattle.lines.proofs.hex.decode.Goals.{then-is_empty-via-then-is_empty, then-is_empty-via-else-is_empty+then-text-ne0, in_default-via-in-Some+in_default, in_default-via-in_default}
 
-pub returns-then-same : goal.returns-then-same
-returns-then-same c =
-    let d = read_dash _ _ (c.same.ensures.exactly.0 c.if-same.true) c.new-bytes.ensures.items in
+pub returns-then-eq : goal.returns-then-eq
+returns-then-eq c =
+    let d = read_dash _ _ (is_dash _ _ _ c.eq.ensures c.as_slice.ensures c.if-eq.true) c.new-bytes.ensures.items in
     record { answer = sym d; exact = spells _ _ d }
 
 pub returns-then-is_empty : goal.returns-then-is_empty
 returns-then-is_empty c =
-    let no-dash = not_from_Decides _ c.same.ensures.exactly c.if-same.false in
     record {
       answer =
           sym
           (elim c.then-is_empty.branch [
             | then-is_empty-via-then-is_empty w ↦ read-empty _ (eqb-true _ 0 (sym c.is_empty.ensures ∙ w.if-is_empty.true))
-            | then-is_empty-via-else-is_empty+then-text-ne0 w ↦ read_odd _ (omega (arith, w.if-text-ne0.true)) no-dash
+            | then-is_empty-via-else-is_empty+then-text-ne0 w ↦ read_odd _ (omega (arith, w.if-text-ne0.true)) (no_dash _ _ _ c.eq.ensures c.as_slice.ensures c.if-eq.false)
           ]);
       exact = tt;
     }
 
-pub loop-i-init : goal.loop-i-init
-loop-i-init c =
-    let no-dash = not_from_Decides _ c.same.ensures.exactly c.if-same.false in
+pub loop-high-init : goal.loop-high-init
+loop-high-init c =
     let some = eqb-false _ 0 (sym c.is_empty.ensures ∙ c.if-is_empty.false) in
-    rw c.new-bytes.ensures.items (read_none _ (omega (arith, some)) no-dash)
+    rw c.new-bytes.ensures.items (read_none _ (omega (arith, some)) (no_dash _ _ _ c.eq.ensures c.as_slice.ensures c.if-eq.false))
+
+pub loop-high-preserved : goal.loop-high-preserved
+loop-high-preserved c =
+    let at : c.loop-high.high-index < length c.args.text.now / 2 = omega (arith, c.as_chunks.ensures.front_len) in
+    read_more _ _ _ _ _ _ (omega arith) (sym (chunk_high _ _ _ _ c.as_chunks.ensures.front at) ∙ sym c.in-Some-Some.ensures) (sym (chunk_low _ _ _ _ c.as_chunks.ensures.front at) ∙ sym c.in-Some-Some.ensures')
+    c.in_ok-push.ensures.items c.loop-high.invariant
 
 pub returns-in_default : goal.returns-in_default
 returns-in_default c =
-    record { answer = sym (read_no_high _ _ _ (omega arith) (sym c.value_of.ensures ∙ c.in_default.is) c.loop-i.invariant); exact = tt }
-
-pub returns-in_default-value_of : goal.returns-in_default-value_of
-returns-in_default-value_of c =
+    let at : c.loop-high.high-index < length c.args.text.now / 2 = omega (arith, c.as_chunks.ensures.front_len) in
+    let high = sym (chunk_high _ _ _ _ c.as_chunks.ensures.front at) ∙ sym c.value_of.ensures in
+    let low = sym (chunk_low _ _ _ _ c.as_chunks.ensures.front at) ∙ sym c.value_of-in-loop-high.ensures in
     record {
       answer =
           sym
-          (read_no_low _ _ _ _ (omega arith) (sym c.value_of.ensures ∙ c.in-Some.is) (sym c.value_of-in-loop-i.ensures ∙ c.in_default-value_of.is)
-          c.loop-i.invariant);
+          (elim c.in_default.branch [
+            | in_default-via-in-Some+in_default w ↦ read_no_low _ _ _ _ (omega arith) (high ∙ w.in_default.is-0) (low ∙ w.in_default.is-1) c.loop-high.invariant
+            | in_default-via-in_default w ↦ read_no_high _ _ _ (omega arith) (high ∙ w.in_default.is-0) c.loop-high.invariant
+          ]);
       exact = tt;
     }
 
-pub loop-i-preserved : goal.loop-i-preserved
-loop-i-preserved c =
-    read_more _ _ _ _ _ _ (omega arith) (sym c.value_of.ensures ∙ c.in-Some.is) (sym c.value_of-in-loop-i.ensures ∙ c.in-Some-value_of.is)
-    c.in_ok-push.ensures.items c.loop-i.invariant
-
 pub returns : goal.returns
 returns c =
-    let d = read_all (vec_items c.loop-i.bytes) c.args.text.now c.loop-i.i (omega arith) c.loop-i.invariant in
+    let d = read_all (vec_items c.loop-high.bytes) c.args.text.now c.loop-high.high-index (omega (arith, c.as_chunks.ensures.front_len)) c.loop-high.invariant in
     record { answer = sym d; exact = spells _ _ d }

@@ -1,16 +1,16 @@
-use Rattle.std.proofs.Common.{◌+◌, take, ap, arith}
-use native.Mathlib.Nat.{sub-zero}
+use Rattle.std.proofs.Common.{◌+◌, ◌∷◌, take, sym, ap, ◌∙◌}
 use Rattle.std.proofs.lemmas.List.{take_rest}
-use Rattle.lines.proofs.Cuts.{words-cut, words_one}
+use Rattle.lines.specs.Line.{words}
+use Rattle.lines.proofs.Cuts.{words_at, words_one}
 use Rattle.lines.proofs.line.cut.Goals as goal
 
-pub returns-then-b-eq32 : goal.returns-then-b-eq32
-returns-then-b-eq32 c =
+pub returns-in-Some : goal.returns-in-Some
+returns-in-Some c =
+    let line = c.args.line.now in
+    let i = c.in-Some.space in
     record {
-      whole =
-          words-cut c.args.line.now _ _ c.loop-i.i c.loop-i-test.true c.if-b-eq32.true c.loop-i.invariant
-          (ap (λ n. take n c.args.line.now) (sub-zero c.loop-i.i)) (take_rest c.args.line.now (c.loop-i.i + 1));
+      whole = words_at line i (sym c.first_space.ensures ∙ c.in-Some.is) ∙ ap (λ rest. take i line ∷ words rest) (sym (take_rest line (i + 1)));
     }
 
-pub returns : goal.returns
-returns c = record { whole = words_one _ (λ k h. c.loop-i.invariant k (omega arith)) }
+pub returns-in-None : goal.returns-in-None
+returns-in-None c = record { whole = words_one _ (sym c.first_space.ensures ∙ c.in-None.is) }

@@ -1,9 +1,14 @@
-use Rattle.std.proofs.Common.{drop, sym, ◌∙◌, arith}
-use Rattle.sha256.proofs.Blocks.{rounds_more, rounds_none}
+use Rattle.std.proofs.Common.{sym, ◌∙◌, rules}
+use Rattle.std.proofs.lemmas.Iterator.{YieldsList-from_slice, YieldsList-from_zip}
+use Rattle.std.proofs.lemmas.Iterator.Consumers.{fold_from_yields_List}
+use Rattle.sha256.specs.Sha256.{round}
+use Rattle.sha256.proofs.Blocks.{rounds_fold}
 use Rattle.sha256.proofs.compression.all_rounds.Goals as goal
 
-pub loop-t-preserved : goal.loop-t-preserved
-loop-t-preserved c = let e = rounds_more c.args.constants.now c.args.words.now c.loop-t.t c.loop-t.v (omega arith) (omega arith) in cc
-
 pub returns : goal.returns
-returns c = sym (rounds_none c.args.constants.now (drop c.loop-t.t c.args.words.now) c.loop-t.t c.loop-t.v (omega arith)) ∙ c.loop-t.invariant
+returns c =
+    let ks = c.args.constants.now in
+    let ws = c.args.words.now in
+    fold_from_yields_List _ (λ v p. round p.0 p.1 v) c.args.state c.fold.result c.fold.ensures.ran
+    (YieldsList-from_zip (YieldsList-from_slice ks cc) (YieldsList-from_slice ws cc)) (λ v p r q k. search rules)
+    ∙ sym (rounds_fold ks ws c.args.state)

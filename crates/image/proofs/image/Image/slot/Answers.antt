@@ -1,9 +1,10 @@
-use Rattle.std.proofs.Common.{sym}
-use Rattle.image.proofs.Cells.{cell_past, cell_part}
+use Rattle.std.proofs.Common.{arith}
+use Rattle.image.proofs.Cells.{slots_are, slot_part}
 use Rattle.image.proofs.image.Image.slot.Goals as goal
 
-pub returns-then-k-self : goal.returns-then-k-self
-returns-then-k-self c = record { answer = sym (cell_past c.args.self.now c.args.k c.if-k-self.true) }
-
 pub returns : goal.returns
-returns c = record { answer = cell_part c.args.self.now c.as_slice-all.result.now c.args.k c.as_slice-all.ensures.value c.if-k-self.false }
+returns c =
+    let bs = c.self.inside.bytes.items in
+    let is = c.deref.ensures.value in
+    let n = slots_are c.self.inside.bytes _ _ c.self.view_is c.len.ensures.answer in
+    record { answer = rw (is, ← c.self.view_is) (slot_part bs c.args.k (omega arith)) }

@@ -1,21 +1,37 @@
-use Rattle.std.proofs.Common.{ap, arith}
-use Rattle.credential.specs.Rec.{blank}
-use Rattle.credential.specs.Slot.{record_of}
+use Rattle.std.proofs.Common.{◌≡◌, ◌<◌, [], Some, length, slice_index_or, ap, ◌∙◌, refl, arith}
+use Rattle.credential.specs.Rec.{Rec, blank}
+use Rattle.credential.specs.Slot.{content_of, record_of}
 use Rattle.credential.proofs.Told.{none_read, same_read}
+use Rattle.image.specs.Cut.{bytes_of, cells}
+use Rattle.logstore.specs.Log.{records_in}
+use Rattle.logstore.specs.Places.{places_from}
 use Rattle.logstore.proofs.Standing.{record_in_lem, length_listed}
 use Rattle.logstore.proofs.log.Log.record_at.Goals as goal
+use Rattle.logstore.proofs.log.Log.record_at.Goals.{After-as_slice, After-slot}
 
-pub at-requires : goal.at-requires
-at-requires c = omega (arith, length_listed c.args.self.now.image _ c.args.self.now.opens c.places-places.ensures)
+are : (c : goal.After-as_slice) → c.as_slice.result.now ≡ places_from 0 [] (cells c.self.inside.image)
+are c = c.as_slice.ensures.value ∙ c.places-places.ensures
+
+there : (c : goal.After-as_slice) → c.args.place < length (records_in (bytes_of c.self.inside.image))
+there c = rw (← c.self.view_is) at c.requires
+
+below : (c : goal.After-as_slice) → c.args.place < length c.as_slice.result.now
+below c = omega (arith, there c, length_listed c.self.inside.image c.as_slice.result.now c.self.invariant.opens (are c))
+
+-- what is read of the slot
+slot_read : (c : goal.After-slot) (d : Rec) → record_of (content_of c.slot.result.now) ≡ Some (slice_index_or (records_in (bytes_of c.self.inside.image)) c.args.place d)
+slot_read c d =
+    let e = (goal.at.After-slot c).After-as_slice in
+    ap record_of (record_in_lem c.self.inside.image c.as_slice.result.now c.slot.result.now c.args.place _ d c.self.invariant.opens (are e) (there e) refl c.slot.ensures.answer)
+
+pub offset_bounds-as_slice-place : goal.offset_bounds-as_slice-place
+offset_bounds-as_slice-place c = omega (arith, below c, c.as_slice.ensures.fits)
+
+pub bounds-as_slice-place : goal.bounds-as_slice-place
+bounds-as_slice-place c = below (goal.at.bounds-as_slice-place c).After-as_slice
 
 pub unreachable-requires : goal.unreachable-requires
-unreachable-requires c =
-    let g = c.args.self.now in
-    none_read _ _ c.in_default.ensures.answer
-    (ap record_of (record_in_lem g.image _ _ c.args.place _ blank g.opens c.places-places.ensures (omega arith) c.at.ensures c.slot.ensures.answer))
+unreachable-requires c = none_read _ _ c.in_default.ensures.answer (slot_read (goal.at.unreachable-requires c).After-slot blank)
 
 pub returns : goal.returns
-returns c d =
-    let g = c.args.self.now in
-    same_read _ _ _ c.in-Some.ensures.answer
-    (ap record_of (record_in_lem g.image _ _ c.args.place _ d g.opens c.places-places.ensures (omega arith) c.at.ensures c.slot.ensures.answer))
+returns c d = rw (← c.self.view_is) (same_read _ _ _ c.in-Some.ensures.answer (slot_read (goal.at.returns c).After-slot d))

@@ -1,13 +1,13 @@
-use Rattle.std.proofs.Common.{refl, ◌∙◌, arith, rules}
-use Rattle.std.proofs.lemmas.List.{places}
+use Rattle.std.proofs.Common.{[], ◌∷◌, ◌∙◌, ap, refl, rules}
+use Rattle.std.specs.List.{flat_map}
+use Rattle.std.proofs.lemmas.List.Folds.{flat_map-map}
 use Rattle.sha256.specs.Sha256.{bytes, digest_of}
-use Rattle.sha256.proofs.Writes.{bytes_more, bytes_all}
+use Rattle.sha256.proofs.Maps.{mapped}
 use Rattle.sha256.proofs.state.State.to_bytes.Goals as goal
 
-pub loop-i-preserved : goal.loop-i-preserved
-unfolding bytes
-loop-i-preserved c = (search (rules, places), bytes_more _ c.loop-i.out c.copy_from_slice.new.self c.loop-i.i _ c.loop-i.invariant.0 (omega arith) (omega arith) c.loop-i.invariant.1 (c.copy_from_slice.ensures.after ∙ c.to_be_bytes.ensures))
-
 pub returns : goal.returns
-unfolding digest_of
-returns c = bytes_all _ c.loop-i.out c.loop-i.i (omega arith) refl (omega arith) c.loop-i.invariant.1
+unfolding digest_of bytes
+returns c =
+    let s = c.args.self in
+    let each = mapped bytes c.map-bytes.ensures.items refl (λ p w r q k. search rules) in
+    c.copy_from_slice.ensures.after ∙ (c.as_flattened.ensures.value ∙ (ap (flat_map (λ x. x)) each ∙ flat_map-map (λ x. x) bytes (s.a ∷ s.b ∷ s.c ∷ s.d ∷ s.e ∷ s.f ∷ s.g ∷ s.h ∷ [])))

@@ -1,0 +1,3 @@
+pub mod Judged
+pub mod Outlined
+pub mod Shown

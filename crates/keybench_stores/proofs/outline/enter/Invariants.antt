@@ -1,9 +1,0 @@
-use Rattle.std.proofs.Common.{◌≡◌, reverse, vec_items, vec_len}
-use Rattle.keybench_stores.specs.Outlined.{finished}
-use Rattle.keybench_stores.proofs.outline.enter.Given as goal
-
-abbrev pub invariant-loop-count : goal.invariant-loop-count
-invariant-loop-count l = finished (reverse (vec_items l.awaited)) ≡ finished (reverse (vec_items l.initial.awaited))
-
-abbrev pub decreases-loop-count : goal.decreases-loop-count
-decreases-loop-count l = vec_len l.awaited

@@ -1,6 +1,0 @@
-use Rattle.std.proofs.Common.{◌≡◌, ◌++◌, drop, string_bytes}
-use Rattle.lines.specs.Hex.{digits}
-use Rattle.lines.proofs.hex.encode.Given as goal
-
-abbrev pub invariant-loop-b : goal.invariant-loop-b
-invariant-loop-b l = string_bytes l.text ++ digits (drop l.b-index l.bytes) ≡ digits l.bytes
