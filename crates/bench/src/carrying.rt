@@ -11,6 +11,7 @@ use std::alloc::{AllocError, Global};
 
 const WORK_SIZE: usize = 64;
 
+// `meant` stands in each contract over a step, as an enum cannot have a model.
 impl Step {
     /// What the step prints, where `help` is what help prints.
     pub fn carry_out(&self, heap: Global, help: &str) -> Result<String, AllocError>

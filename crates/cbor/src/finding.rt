@@ -31,7 +31,7 @@ fn is_named(key: &Key, item: &Item) -> bool
 {
     match (key, item) {
         (Key::Number(wanted), Item::Number(number)) => number == wanted,
-        // `same` and no `==`: there is one comparison of byte strings in the repository.
+        // `same` and no `==`: it looks at every byte of two strings of one length, as for tags.
         (Key::Text(wanted), Item::Text(string)) => same(string, wanted),
         _ => false,
     }

@@ -102,10 +102,7 @@ impl Record {
             y: &zeros,
             cred_protect: u8::from(CredProtect::UserVerificationOptional),
         };
-        let Ok(smallest) = Record::new(fields) else {
-            unreachable()
-        };
-        smallest
+        Record::new(fields).unwrap()
     }
 
     /// The fields of the record.

@@ -55,6 +55,7 @@ pub enum Slot {
     Withdrawal(u8),
 }
 
+// A method with a name and no `TryFrom`: what is read is a slot, and the name says of which bytes.
 impl Slot {
     /// What a slot of these bytes holds; nothing where they are no slot.
     #[tactic(auto, using(crate::proofs::Slots::exact, crate::proofs::Slots::content_other))]
@@ -124,7 +125,7 @@ impl Record {
 }
 
 /// Writes a part of a slot.
-// One line round `copy_from_slice`, since eight fields are written so.
+// One line round `copy_from_slice`; shared with other crates it would be a public call with a condition on its caller.
 fn put(into: &mut [u8; SLOT], at: usize, bytes: &[u8])
     requires { at + length bytes.now ≤ 512 }
     ensures { into.new ≡ take at into.old ++ (bytes.now ++ drop (at + length bytes.now) into.old) }

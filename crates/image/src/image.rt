@@ -126,6 +126,7 @@ impl Image {
         self.bytes.as_slice()
     }
 
+    // A method with a name and no `From`, as std's `into_bytes`.
     /// The bytes of all slots, and no more an image.
     pub fn into_bytes(self) -> Vec<u8>
         ensures answer { result ≡ self }

@@ -84,10 +84,7 @@ impl Log {
         ensures { (d : Rec) → result ≡ slice_index_or (records_in (bytes_of self.now)) place d }
     {
         let places = places(&self.image);
-        let Some(found) = Record::from_slot(self.image.slot(places.as_slice()[place])) else {
-            unreachable()
-        };
-        found
+        Record::from_slot(self.image.slot(places.as_slice()[place])).unwrap()
     }
 }
 

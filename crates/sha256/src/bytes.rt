@@ -1,4 +1,4 @@
-//! The one comparison of byte strings.
+//! The comparison of byte strings that looks at every byte.
 
 ghost use Rattle.std.specs.Prelude.{◌≡◌, Decides};
 ghost use Rattle.std.specs.Str.{bytes_eq};

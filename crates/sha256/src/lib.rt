@@ -1,4 +1,4 @@
-//! SHA-256, HMAC-SHA-256 and the one comparison of byte strings.
+//! SHA-256, HMAC-SHA-256 and the comparison of byte strings that looks at every byte.
 
 #![tactic(auto)]
 

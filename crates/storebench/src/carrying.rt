@@ -1,5 +1,6 @@
 //! The steps over the store that is open: what each does and prints.
 // `heap` stays a parameter of its own: a struct of `heap` and `held` would keep an allocator between calls.
+// `state_of held` stands in each contract: the state is what these calls are about.
 
 ghost use Rattle.std.specs.Prelude.{◌≡◌, ◌⊎◌, IfOk, string_bytes, OnOk};
 ghost use Rattle.image.specs.Opening.{listing};

@@ -20,6 +20,7 @@ pub(crate) fn open_line(heap: Global, opening: Result<Fill, Refusal>) -> Result<
     match opening {
         Ok(fill) => format!(in heap; "open: 0x00 place 0, {fill}\n"),
         Err(why) => {
+            // By `Hex`, whose text is the definition's: of `{status:02x}` that would be a proof of its own.
             let status = [why.status()];
             let status = Hex(&status);
             let place = why.place();

@@ -100,10 +100,7 @@ impl Store for Table {
         if place >= self.listed {
             return Err(NoRecord);
         }
-        let Some(found) = Record::from_slot(self.image.slot(place)) else {
-            unreachable()
-        };
-        *into = found;
+        *into = Record::from_slot(self.image.slot(place)).unwrap();
         Ok(())
     }
 

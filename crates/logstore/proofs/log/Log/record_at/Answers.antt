@@ -1,7 +1,7 @@
-use Rattle.std.proofs.Common.{◌≡◌, ◌<◌, [], Some, length, slice_index_or, ap, ◌∙◌, refl, arith}
+use Rattle.std.proofs.Common.{◌≡◌, ◌<◌, [], Some, length, slice_index_or, ap, sym, ◌∙◌, refl, arith}
 use Rattle.credential.specs.Rec.{Rec, blank}
 use Rattle.credential.specs.Slot.{content_of, record_of}
-use Rattle.credential.proofs.Told.{none_read, same_read}
+use Rattle.credential.proofs.Told.{same_read}
 use Rattle.image.specs.Cut.{bytes_of, cells}
 use Rattle.logstore.specs.Log.{records_in}
 use Rattle.logstore.specs.Places.{places_from}
@@ -30,8 +30,8 @@ offset_bounds-as_slice-place c = omega (arith, below c, c.as_slice.ensures.fits)
 pub bounds-as_slice-place : goal.bounds-as_slice-place
 bounds-as_slice-place c = below (goal.at.bounds-as_slice-place c).After-as_slice
 
-pub unreachable-requires : goal.unreachable-requires
-unreachable-requires c = none_read _ _ c.in_default.ensures.answer (slot_read (goal.at.unreachable-requires c).After-slot blank)
+pub unwrap-requires : goal.unwrap-requires
+unwrap-requires c = rw (c.from_slot.ensures.answer ∙ slot_read (goal.at.unwrap-requires c).After-slot blank) refl
 
 pub returns : goal.returns
-returns c d = rw (← c.self.view_is) (same_read _ _ _ c.in-Some.ensures.answer (slot_read (goal.at.returns c).After-slot d))
+returns c d = rw (← c.self.view_is) (same_read _ _ _ (sym c.unwrap.ensures) (c.from_slot.ensures.answer ∙ slot_read (goal.at.returns c).After-slot d))

@@ -1,6 +1,6 @@
-use Rattle.std.proofs.Common.{◌≡◌, Some, slice_index_or, ap, ◌∙◌, arith}
+use Rattle.std.proofs.Common.{◌≡◌, Some, slice_index_or, ap, sym, refl, ◌∙◌, arith}
 use Rattle.credential.specs.Slot.{content_of, record_of}
-use Rattle.credential.proofs.Told.{none_read, same_read}
+use Rattle.credential.proofs.Told.{same_read}
 use Rattle.image.specs.Cut.{bytes_of}
 use Rattle.table.specs.Tables.{records_in}
 use Rattle.table.proofs.Kept.{reads}
@@ -13,8 +13,8 @@ slot_read c =
     ap (λ s. record_of (content_of s)) c.slot.ensures.answer
     ∙ ap record_of (reads c.self.inside.image c.self.invariant.opens c.args.place c.args.into.now (omega (arith, c.self.invariant.listed)))
 
-pub unreachable-requires : goal.unreachable-requires
-unreachable-requires c = none_read _ _ c.in_default.ensures.answer (slot_read (goal.at.unreachable-requires c).After-slot)
+pub unwrap-requires : goal.unwrap-requires
+unwrap-requires c = rw (c.from_slot.ensures.answer ∙ slot_read (goal.at.unwrap-requires c).After-slot) refl
 
 pub returns-clause-found : goal.returns-clause-found
-returns-clause-found c = rw (← c.self.view_is) (same_read _ _ _ c.in-Some.ensures.answer (slot_read (goal.at.returns-clause-found c).After-slot))
+returns-clause-found c = rw (← c.self.view_is) (same_read _ _ _ (sym c.unwrap.ensures) (c.from_slot.ensures.answer ∙ slot_read (goal.at.returns-clause-found c).After-slot))
