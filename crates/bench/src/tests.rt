@@ -78,3 +78,13 @@ fn each_line_is_served(rt: HostRuntime) -> Result<(), Fail> {
     assert_eq!(rt; output.as_slice(), b"3;4;7;".as_slice());
     Ok(())
 }
+
+#[test]
+fn mistakes_have_lines(rt: HostRuntime) -> Result<(), Fail> {
+    let heap = rt.alloc();
+    assert_eq!(rt;
+        Wrong::NoStore.line(heap)?.as_str(),
+        "error: no store is open\n"
+    );
+    Ok(())
+}

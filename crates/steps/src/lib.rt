@@ -6,6 +6,8 @@ mod adding;
 mod kinds;
 mod parsing;
 mod step;
+#[cfg(test)]
+mod tests;
 
 pub use parsing::{Name, parse};
 pub use step::{Parts, Step, StoreStep};
