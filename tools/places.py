@@ -52,12 +52,33 @@ def functions(root, tests=False):
             yield f"{name}:{start + 1}", match.group(2), text[:opening], text[opening:]
 
 
-def kinds(root):
-    """1: own enums, and functions that answer a flag or a number of a kind."""
-    enums = grep(root, r"^\s*(pub(\(crate\))? )?enum ")
-    flags = grep(root, r"\) -> (Result<)?bool\b|&mut self.*-> bool")
-    numbers = grep(root, r"\bResult<.*, (u8|u16|usize)>|\) -> u8\b|\b(major|info|kind|mark): u8")
-    return {"enums": enums, "flags": flags, "numbers": numbers}
+# What is listed for a point by a pattern of its lines. Tests are read for loops alone.
+PATTERNS = {
+    # own enums, and functions that answer a flag or a number of a kind
+    1: {
+        "enums": r"^\s*(pub(\(crate\))? )?enum ",
+        "flags": r"\) -> (Result<)?bool\b|&mut self.*-> bool",
+        "numbers": r"\bResult<.*, (u8|u16|usize)>|\) -> u8\b|\b(major|info|kind|mark): u8",
+    },
+    # loops over a range of numbers, and loops with a test
+    3: {"ranges": r"\bfor \w+ in [^{]*\.\.", "tests": r"\bwhile\b|\bloop\b"},
+    # conversion, printing, order and equality by hand
+    4: {
+        "conversions": r"\bfn (from_|to_|into_|number_of|protect|id|kind|name_of|status|place|words)\w*\b",
+        "printing": r"format!\(|String::from_str\(|\bpush_str\(|\.push\(.*as char|\bfn fmt\b",
+        "equality, order, copies": r"\bfn (eq|ne|cmp|lt|is_below|comes_before|same|clone|copy)\b",
+    },
+    # a switch on a step, a kind or a name, and chains of comparisons
+    7: {
+        "switches": r"\bmatch (step|kind|name|name_of|self|held|\(?key)\b",
+        "chains": r"else if same\(",
+    },
+}
+
+
+def by_pattern(root, point):
+    """What the patterns of a point find."""
+    return {title: grep(root, pattern, point == 3) for title, pattern in PATTERNS[point].items()}
 
 
 def shape(lines):
@@ -85,22 +106,6 @@ def twins(root):
         if len(same) >= 10 and p.split("/")[1] != q.split("/")[1]:
             files.append((p, f"{q} ({len(same)} lines)"))
     return {"functions": pairs, "files of two crates": files}
-
-
-def loops(root):
-    """3: loops over a range of numbers, and loops with a test."""
-    return {
-        "ranges": grep(root, r"\bfor \w+ in [^{]*\.\.", True),
-        "tests": grep(root, r"\bwhile\b|\bloop\b", True),
-    }
-
-
-def hands(root):
-    """4: conversion, printing, order and equality by hand."""
-    conversions = grep(root, r"\bfn (from_|to_|into_|number_of|protect|id|kind|name_of|status|place|words)\w*\b")
-    printing = grep(root, r"format!\(|String::from_str\(|\bpush_str\(|\.push\(.*as char|\bfn fmt\b")
-    order = grep(root, r"\bfn (eq|ne|cmp|lt|is_below|comes_before|same|clone|copy)\b")
-    return {"conversions": conversions, "printing": printing, "equality, order, copies": order}
 
 
 def facts(root):
@@ -146,14 +151,6 @@ def buffers(root):
     return {"a buffer with a number beside it": found}
 
 
-def switches(root):
-    """7: a switch on a step, a kind or a name, and chains of comparisons."""
-    return {
-        "switches": grep(root, r"\bmatch (step|kind|name|name_of|self|held|\(?key)\b"),
-        "chains": grep(root, r"else if same\("),
-    }
-
-
 def proofs(root):
     """8: lines of proofs and answers in each crate."""
     rows = []
@@ -166,14 +163,15 @@ def proofs(root):
     return {"crates": rows}
 
 
-POINTS = [kinds, twins, loops, hands, facts, buffers, switches, proofs]
+OTHERS = {2: twins, 5: facts, 6: buffers, 8: proofs}
 
 
 def main():
     root = sys.argv[2] if len(sys.argv) > 2 else pathlib.Path(__file__).resolve().parent.parent
     chosen = [int(sys.argv[1])] if len(sys.argv) > 1 else range(1, 9)
     for point in chosen:
-        for title, places in POINTS[point - 1](root).items():
+        listed = by_pattern(root, point) if point in PATTERNS else OTHERS[point](root)
+        for title, places in listed.items():
             print(f"{point}, {title}: {len(places)}")
             if len(sys.argv) > 1:
                 for place in places:
