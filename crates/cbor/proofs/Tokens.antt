@@ -57,3 +57,13 @@ spelled_some us said spelled behind h =
     let size = token_size us h.found h.is in
     let e = ap length h.spelled_is in
     omega (arith, length-take h.found.size us)
+
+-- what lies behind an item is shorter than what it was read from
+pub behind_less : (us : List ℕ) (said : Said) (spelled behind : List ℕ) → Has us (token us) said spelled behind → length behind < length us
+behind_less us said spelled behind h =
+    let size = token_size us h.found h.is in
+    let e = ap length h.behind_is in
+    omega (arith, length-drop h.found.size us)
+
+pub behind_short : (us : List ℕ) (o : Option Token) (said : Said) (spelled behind : List ℕ) → Has us o said spelled behind → length behind ≤ length us
+behind_short us o said spelled behind h = let e = ap length h.behind_is in omega (arith, length-drop h.found.size us)

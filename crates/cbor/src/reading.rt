@@ -119,6 +119,8 @@ fn string_len(item: &Item) -> usize
 }
 
 /// The item that the unread bytes begin with.
+// Inlined: its three parts are large to hand back.
+#[inline(always)]
 #[tactic(auto, unfolding(crate::specs::Reader::token, crate::specs::Steps::given))]
 pub(crate) fn read_token(bytes: &[u8]) -> Option<Token<'_>>
     ensures { option_map token_told result ≡ option_map (token_of bytes.now) (token bytes.now) }

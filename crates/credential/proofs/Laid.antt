@@ -47,6 +47,15 @@ field_whole size bs e =
     let none : size - length bs ≡ 0 = omega arith in
     ap (λ k. bs ++ replicate k 0) none ∙ append-nil bs
 
+-- a field is written, with its zeros
+pub filled_field :
+    {at : ℕ} {front s part s' : List ℕ} (size to : ℕ) (bs : List ℕ) → Filled at front s → part ≡ field size bs → length bs ≤ size → at + size ≡ to → to ≤ 512
+    → s' ≡ take at s ++ (part ++ drop (at + length part) s) → Filled to (front ++ field size bs) s'
+filled_field {at} {front} {s} {part} {s'} size to bs h is le up fits e =
+    let long : length (field size bs) ≡ size = length_field size bs le in
+    let few : length part ≤ size = omega (arith, ap length is, long) in
+    subst (λ l. Filled to (front ++ l) s') (field_whole size (field size bs) long) (filled_more size to (field size bs) h is few up fits e)
+
 regroup :
     (h a b c d e f g z : List ℕ) → (((((((([] ++ h) ++ a) ++ b) ++ c) ++ d) ++ e) ++ f) ++ g) ++ z ≡ h ++ (a ++ (b ++ (c ++ (d ++ (e ++ (f ++ (g ++ z)))))))
 regroup h a b c d e f g z = simp append_assoc

@@ -1,3 +1,4 @@
 mod Laid
+pub mod Records
 pub mod Slots
 pub mod Told

@@ -126,6 +126,7 @@ impl Record {
     #[tactic(auto, unfolding(crate::specs::Rec::party))]
     pub fn rp_id_hash(&self) -> [u8; 32]
         ensures answer { result ≡ party self.now }
+        ensures within { is_within self.now ≡ true }
     {
         sha256::digest(self.rp_id.as_slice())
     }

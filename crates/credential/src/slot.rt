@@ -99,10 +99,10 @@ impl Record {
     {
         let mut slot = [0; SLOT];
         put(&mut slot, 0, &self.header());
-        put(&mut slot, RP_ID_AT, self.rp_id.as_slice());
-        put(&mut slot, USER_ID_AT, self.user_id.as_slice());
-        put(&mut slot, NAME_AT, self.name.as_slice());
-        put(&mut slot, DISPLAY_NAME_AT, self.display_name.as_slice());
+        put(&mut slot, RP_ID_AT, self.rp_id.padded());
+        put(&mut slot, USER_ID_AT, self.user_id.padded());
+        put(&mut slot, NAME_AT, self.name.padded());
+        put(&mut slot, DISPLAY_NAME_AT, self.display_name.padded());
         put(&mut slot, CREDENTIAL_ID_AT, &self.credential_id);
         put(&mut slot, X_AT, &self.x);
         put(&mut slot, Y_AT, &self.y);

@@ -1,8 +1,8 @@
 //! What a store of records means: a list of records and a capacity.
 
-ghost use Rattle.std.specs.Prelude.{◌≡◌, ℕ, ◌≤◌, false, List, [], ◌∷◌, ◌++◌, length, is_ok, if◌then◌else◌, nat_lt, slice_index_or};
+ghost use Rattle.std.specs.Prelude.{◌≡◌, ℕ, ◌≤◌, true, false, List, [], ◌∷◌, ◌++◌, length, is_ok, OnOk, if◌then◌else◌, nat_lt, slice_index_or};
 ghost use Rattle.std.specs.List.{remove};
-ghost use Rattle.credential.specs.Rec.{Rec};
+ghost use Rattle.credential.specs.Rec.{Rec, is_within};
 
 use crate::record::Record;
 
@@ -44,6 +44,7 @@ pub trait Store {
     fn read(&self, place: usize, into: &mut Record) -> Result<(), NoRecord>
         ensures answer { is_ok result ≡ nat_lt place (length (records self.now)) }
         ensures found { into.new ≡ slice_index_or (records self.now) place into.old }
+        ensures within { OnOk result (is_within into.new ≡ true) }
         ensures refused { is_ok result ≡ false → into.new ≡ into.old };
 
     /// Puts a record at the end, if the store is not full.

@@ -2,26 +2,28 @@
 
 ghost use Rattle.std.specs.Prelude.{◌≡◌, ◌≤◌, length, is_ok, IfOk};
 ghost use Rattle.credential.specs.Rec.{between};
+ghost use Rattle.credential.specs.Slot.{field};
 
 use crate::limits::OutsideLimits;
-use arrayvec::ArrayVec;
 use std::marker::Model;
 
-/// From `MIN` to `MAX` bytes.
+/// From `MIN` to `MAX` bytes; what lies behind them is zero.
+// An array and a length, and no `ArrayVec`: with the zeros in place a slot is written by copies of fixed sizes, twice as fast.
 #[derive(Drop)]
 pub struct Text<const MIN: usize, const MAX: usize> {
-    bytes: ArrayVec<u8, MAX>,
+    bytes: [u8; MAX],
+    len: usize,
 }
 
 impl<const MIN: usize, const MAX: usize> Model for Text<MIN, MAX> {
-    ghost use Rattle.std.specs.Prelude.{◌≡◌, ℕ, List, length, true};
+    ghost use Rattle.std.specs.Prelude.{◌≡◌, ◌-◌, ◌≤◌, ℕ, List, length, take, drop, replicate, true};
     ghost use Rattle.credential.specs.Rec.{between};
 
     ghost Value = { List ℕ };
 
-    ghost view = { λ t. t.bytes.items };
+    ghost view = { λ t. take t.len t.bytes };
 
-    ghost invariant = { λ t. between MIN MAX (length t.bytes.items) ≡ true };
+    ghost invariant = { λ t. (length t.bytes ≡ MAX) × (t.len ≤ MAX) × (between MIN MAX t.len ≡ true) × (drop t.len t.bytes ≡ replicate (MAX - t.len) 0) };
 }
 
 impl<const MIN: usize, const MAX: usize> TryFrom<&[u8]> for Text<MIN, MAX> {
@@ -30,11 +32,13 @@ impl<const MIN: usize, const MAX: usize> TryFrom<&[u8]> for Text<MIN, MAX> {
     ghost try_from_gives = { λ text r. (is_ok r ≡ between MIN MAX (length text.now)) × IfOk r (λ t. t ≡ text.now) };
 
     fn try_from(text: &[u8]) -> Result<Self, OutsideLimits> {
-        let bytes = ArrayVec::try_from(text)?;
-        if bytes.len() < MIN {
+        let len = text.len();
+        if len < MIN || len > MAX {
             return Err(OutsideLimits);
         }
-        Ok(Text { bytes })
+        let mut bytes = [0; MAX];
+        bytes[..len].copy_from_slice(text);
+        Ok(Text { bytes, len })
     }
 }
 
@@ -44,7 +48,14 @@ impl<const MIN: usize, const MAX: usize> Text<MIN, MAX> {
         ensures bytes { result.now ≡ self.now }
         ensures fits { length result.now ≤ MAX }
     {
-        self.bytes.as_slice()
+        &self.bytes[..self.len]
+    }
+
+    /// The bytes of the text, and zeros behind them.
+    pub(crate) fn padded(&self) -> &[u8; MAX]
+        ensures { result.now ≡ field MAX self.now }
+    {
+        &self.bytes
     }
 
     /// How many bytes there are.
@@ -52,6 +63,6 @@ impl<const MIN: usize, const MAX: usize> Text<MIN, MAX> {
         ensures answer { result ≡ length self.now }
         ensures fits { result ≤ MAX }
     {
-        self.bytes.len()
+        self.len
     }
 }

@@ -1,13 +1,14 @@
 //! The text of an outline's entry: its place, and the kind and the value of its item.
 
-ghost use Rattle.std.specs.Prelude.{◌≡◌, Some};
+ghost use Rattle.std.specs.Prelude.{◌≡◌, ℕ, ◌<◌, ◌≤◌, true, length, slice_index, Some};
+ghost use Rattle.std.specs.List.{flat_map};
 ghost use Rattle.cbor.specs.Meaning.{meant};
 ghost use Rattle.explain.specs.Shown.{is_plain, character, quoted, item_text, item_line};
 
 use crate::items::Entry;
 use cbor::Item;
 use lines::hex::Hex;
-use std::fmt;
+use std::{fmt, str};
 
 impl fmt::Display for Entry<'_> {
     ghost output = { λ e. Some (item_line e.place e.level (meant e.item)) };
@@ -57,11 +58,54 @@ impl fmt::Display for Quoted<'_> {
 
     fn fmt<W: fmt::Write>(&self, f: &mut fmt::Formatter<W>) -> fmt::Result {
         write!(f, "\"")?;
+        let mut rest = self.0;
+        // Plain bytes by one write, as far as they go: a write for each takes longer.
+        while !rest.is_empty() {
+            let (plain, behind) = rest.split_at(plain_len(rest));
+            let (others, behind) = behind.split_at(others_len(behind));
+            f.write_str(str::from_utf8(plain).unwrap())?;
+            let others = Characters(others);
+            write!(f, "{others}")?;
+            rest = behind;
+        }
+        write!(f, "\"")
+    }
+}
+
+/// How many bytes at the front are printed as they are.
+fn plain_len(bytes: &[u8]) -> usize
+    ensures within { result ≤ length bytes.now }
+    ensures plain { (i : ℕ) → i < result → is_plain (slice_index bytes.now i) ≡ true }
+{
+    let first = bytes.iter().position(|b| !is_plain(*b));
+    first.unwrap_or(bytes.len())
+}
+
+/// How many bytes at the front are shown one by one: the first, and those behind it up to one that is plain.
+fn others_len(bytes: &[u8]) -> usize
+    ensures within { result ≤ length bytes.now }
+    ensures some { 0 < length bytes.now → 0 < result }
+{
+    let Some((_, behind)) = bytes.split_first() else {
+        return 0;
+    };
+    let more = behind.iter().position(|b| is_plain(*b));
+    1 + more.unwrap_or(behind.len())
+}
+
+/// Bytes of a text, one by one.
+#[derive(Clone, Copy)]
+struct Characters<'a>(&'a [u8]);
+
+impl fmt::Display for Characters<'_> {
+    ghost output = { λ cs. Some (flat_map character cs.0.now) };
+
+    fn fmt<W: fmt::Write>(&self, f: &mut fmt::Formatter<W>) -> fmt::Result {
         for &byte in self.0 {
             let character = Character(byte);
             write!(f, "{character}")?;
         }
-        write!(f, "\"")
+        Ok(())
     }
 }
 

@@ -113,7 +113,7 @@ pub length-put : (at : ℕ) (bs s : List ℕ) → length s ≡ 512 → at + 512 
 length-put at bs s is le = simp (length-append, length-drop) (omega (arith, length-take-le at bs (omega arith)))
 
 -- a slot is written
-slots-put : (bs s : List ℕ) (k : ℕ) → length s ≡ 512 → k < length bs / 512 → slots_of (take (512 * k) bs ++ (s ++ drop (512 * k + 512) bs)) ≡ set (slots_of bs) k s
+pub slots-put : (bs s : List ℕ) (k : ℕ) → length s ≡ 512 → k < length bs / 512 → slots_of (take (512 * k) bs ++ (s ++ drop (512 * k + 512) bs)) ≡ set (slots_of bs) k s
 unfolding cut
 slots-put bs s k is lt =
     let ss = slots_of bs in

@@ -1,11 +1,11 @@
 -- Facts on the words of a line, over plain lists.
-use Rattle.std.proofs.Common.{◌≡◌, ℕ, suc, ◌+◌, ◌<◌, false, ◌==◌, nat_lt, List, [], ◌∷◌, length, get_or, take, drop, Some, None, Option, sym, refl, ap, subst, arith}
+use Rattle.std.proofs.Common.{◌≡◌, ℕ, suc, ◌+◌, ◌-◌, ◌<◌, false, ◌==◌, nat_lt, List, [], ◌∷◌, length, get_or, take, drop, Some, None, Option, sym, refl, ap, subst, arith}
 use Rattle.std.specs.List.{position, position_or_len, onto_first}
-use Rattle.std.proofs.lemmas.Bool.{cond_both, ltb-true, ltb-false}
+use Rattle.std.proofs.lemmas.Bool.{cond_both, ltb-true, ltb-false, ne_eqb}
 use Rattle.std.proofs.lemmas.List.Splits.{slice_split_first}
 use Rattle.std.proofs.lemmas.List.Sums.{fails_before_first}
 use Rattle.lines.specs.Taken.{single, headed}
-use Rattle.lines.specs.Line.{words}
+use Rattle.lines.specs.Line.{content_of, words}
 
 abbrev space : List ℕ → ℕ
 space line = position_or_len (λ c. c == 32) line
@@ -51,3 +51,11 @@ joined_again None = []
 pub headed_parts : (w : List ℕ) (ws vs : List (List ℕ)) → Some (w, ws) ≡ headed vs → vs ≡ w ∷ ws
 headed_parts w ws [] e = absurd (let z : ◌≡◌ {A = ℕ} 0 1 = cc in omega arith)
 headed_parts w ws (v ∷ vs) e = sym (ap joined_again e)
+
+-- a line that no line feed ends
+pub content_none : (line : List ℕ) → length line ≡ 0 → content_of line ≡ line
+content_none [] h = refl
+content_none (c ∷ cs) h = absurd (omega arith)
+
+pub content_other : (line : List ℕ) → (get_or line (length line - 1) 0 ≡ 10 → ⊥) → content_of line ≡ line
+content_other line h = rw (ne_eqb (get_or line (length line - 1) 0) 10 h) refl

@@ -18,7 +18,7 @@ pub digit_none : (m n : ℕ) (t : List ℕ) (i : ℕ) → i < length t → is_di
 unfolding follows all_digits
 digit_none m n t i h e = rw (drop_more t i 0 h, e) refl
 
-digit_past : (m n : ℕ) (cs : List ℕ) → m < n → follows m n cs ≡ None
+pub digit_past : (m n : ℕ) (cs : List ℕ) → m < n → follows m n cs ≡ None
 unfolding follows
 digit_past m n cs h =
     cond-false _ _ _ (and_right (all_digits cs) _ (lt-leb (total n cs) m (omega (arith, total_grows n cs))))

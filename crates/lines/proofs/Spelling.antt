@@ -46,12 +46,12 @@ pairs-digits (b ∷ bs) h =
     rw (value-digit (b / 16) (omega arith), value-digit (b % 16) (omega arith), pairs-digits bs (λ i. h (suc i)))
     (ap (λ n. Some (n ∷ bs)) (let e : 16 * (b / 16) + b % 16 ≡ b = omega arith in e))
 
-back_some : (bs : List ℕ) → ((i : ℕ) → get_or bs i 0 < 256) → 0 < length bs → decoded (digits bs) ≡ Some bs
+pub back_some : (bs : List ℕ) → ((i : ℕ) → get_or bs i 0 < 256) → 0 < length bs → decoded (digits bs) ≡ Some bs
 unfolding decoded digits
 back_some [] h n = absurd (omega arith)
 back_some (b ∷ bs) h n = rw (and_false (eqb (digit (b / 16)) 45)) (pairs-digits (b ∷ bs) h)
 
-back_none : (bs : List ℕ) → length bs ≡ 0 → decoded (codes "-") ≡ Some bs
+pub back_none : (bs : List ℕ) → length bs ≡ 0 → decoded (codes "-") ≡ Some bs
 unfolding decoded
 back_none [] n = refl
 back_none (b ∷ bs) n = absurd (omega arith)

@@ -1,11 +1,17 @@
 //! Bytes as lower-case hex text, with `-` for none.
 
-ghost use Rattle.std.specs.Prelude.{◌≡◌, ◌%◌, IfSome, IfOk, Some, vec_items, string_bytes};
+ghost use Rattle.std.specs.Prelude.{◌≡◌, ◌*◌, ◌%◌, ◌≤◌, length, take, IfSome, IfOk, Some, vec_items, string_bytes};
 ghost use Rattle.std.specs.Option.{option_map};
-ghost use Rattle.lines.specs.Hex.{digit, value, encoded, decoded, bytes_line};
+ghost use Rattle.std.specs.Str.{IsAscii};
+ghost use Rattle.lines.specs.Hex.{digit, digits, value, encoded, decoded, bytes_line};
 
 use std::alloc::{AllocError, Global};
-use std::fmt;
+use std::{fmt, str};
+
+/// How many bytes are shown by one write, and how many digits they have.
+const PART: usize = 32;
+
+const DIGITS: usize = 64;
 
 /// Bytes, shown as two hex digits each, the high one first, or as a dash where there are none.
 #[derive(Clone, Copy)]
@@ -18,10 +24,37 @@ impl fmt::Display for Hex<'_> {
         if self.0.is_empty() {
             return write!(f, "-");
         }
-        for &byte in self.0 {
-            write!(f, "{byte:02x}")?;
+        // Part by part: a write for each byte takes several times as long.
+        for part in self.0.chunks(PART) {
+            let digits = digits_of(part);
+            f.write_str(str::from_utf8(&digits[..2 * part.len()]).unwrap())?;
         }
         Ok(())
+    }
+}
+
+/// The digits of a part, and zeros behind them.
+fn digits_of(part: &[u8]) -> [u8; DIGITS]
+    requires { length part.now ≤ 32 }
+    ensures answer { take (2 * length part.now) result ≡ digits part.now }
+    ensures ascii { IsAscii (digits part.now) }
+{
+    let mut digits = [0; DIGITS];
+    // By index: of values that are written through `iter_mut` and `zip`, nothing would be known after.
+    for (i, byte) in part.iter().enumerate() {
+        digits[2 * i] = digit_of(*byte / 16);
+        digits[2 * i + 1] = digit_of(*byte);
+    }
+    digits
+}
+
+/// The digit of the low four bits.
+fn digit_of(byte: u8) -> u8
+    ensures { result ≡ digit (byte % 16) }
+{
+    match byte % 16 {
+        low @ 0..=9 => b'0' + low,
+        low => b'a' + (low - 10),
     }
 }
 
@@ -48,7 +81,10 @@ pub fn decode(heap: Global, text: &[u8]) -> Result<Option<Vec<u8>>, AllocError>
     // By hand, and not by a library of hex, which takes capitals too.
     let (pairs, _) = text.as_chunks::<2>();
     for [high, low] in pairs {
-        let (Some(high), Some(low)) = (value_of(*high), value_of(*low)) else {
+        let Some(high) = value_of(*high) else {
+            return Ok(None);
+        };
+        let Some(low) = value_of(*low) else {
             return Ok(None);
         };
         bytes.push(16 * high + low)?;

@@ -1,12 +1,13 @@
 //! A log, and its calls.
 
-ghost use Rattle.std.specs.Prelude.{◌≡◌, ◌<◌, length, slice_index_or};
+ghost use Rattle.std.specs.Prelude.{◌≡◌, ◌<◌, true, false, [], ◌∷◌, ◌++◌, length, is_ok, OnOk, if◌then◌else◌, nat_lt, slice_index_or};
+ghost use Rattle.std.specs.List.{remove};
 ghost use Rattle.std.proofs.Common.{refl, ap};
-ghost use Rattle.credential.specs.Rec.{Rec};
+ghost use Rattle.credential.specs.Rec.{Rec, is_within};
 ghost use Rattle.image.specs.Cut.{cells, bytes_of};
 ghost use Rattle.image.specs.Kinds.{capacity_of};
 ghost use Rattle.image.proofs.Stores.{bounded};
-ghost use Rattle.logstore.specs.Log.{kind, entries_in, records_in, spared, extended, reduced};
+ghost use Rattle.logstore.specs.Log.{kind, is_log, entries_in, records_in, spared, extended, reduced};
 
 use crate::compaction::compact;
 use crate::listing::places;
@@ -81,7 +82,8 @@ impl Log {
     /// The record at a place of the list.
     fn record_at(&self, place: usize) -> Record
         requires { place < length (records_in (bytes_of self.now)) }
-        ensures { (d : Rec) → result ≡ slice_index_or (records_in (bytes_of self.now)) place d }
+        ensures answer { (d : Rec) → result ≡ slice_index_or (records_in (bytes_of self.now)) place d }
+        ensures within { is_within result ≡ true }
     {
         let places = places(&self.image);
         Record::from_slot(self.image.slot(places.as_slice()[place])).unwrap()
@@ -104,16 +106,29 @@ impl Store for Log {
 
     ghost determined = { λ s t e. (ap records_in e, ap (capacity_of kind) e) };
 
-    fn count(&self) -> usize {
+    // As for `Table`: the trait's clauses, and that the image opens.
+    fn count(&self) -> usize
+        ensures answer { result ≡ length (records_in (bytes_of self.now)) }
+        ensures opens { is_log (bytes_of self.now) ≡ true }
+    {
         self.counts.listed
     }
 
     #[tactic(auto, using(image::proofs::Cells::length_slots))]
-    fn capacity(&self) -> usize {
+    fn capacity(&self) -> usize
+        ensures answer { result ≡ capacity_of kind (bytes_of self.now) }
+        ensures opens { is_log (bytes_of self.now) ≡ true }
+    {
         Kind::Log.capacity(self.image.len())
     }
 
-    fn read(&self, place: usize, into: &mut Record) -> Result<(), NoRecord> {
+    fn read(&self, place: usize, into: &mut Record) -> Result<(), NoRecord>
+        ensures answer { is_ok result ≡ nat_lt place (length (records_in (bytes_of self.now))) }
+        ensures found { into.new ≡ slice_index_or (records_in (bytes_of self.now)) place into.old }
+        ensures within { OnOk result (is_within into.new ≡ true) }
+        ensures refused { is_ok result ≡ false → into.new ≡ into.old }
+        ensures opens { is_log (bytes_of self.now) ≡ true }
+    {
         if place >= self.counts.listed {
             return Err(NoRecord);
         }
@@ -121,7 +136,14 @@ impl Store for Log {
         Ok(())
     }
 
-    fn add(&mut self, new: &Record) -> Result<(), Full> {
+    fn add(&mut self, new: &Record) -> Result<(), Full>
+        ensures answer { is_ok result ≡ nat_lt (length (records_in (bytes_of self.old))) (capacity_of kind (bytes_of self.old)) }
+        ensures list { records_in (bytes_of self.new) ≡ (if is_ok result then records_in (bytes_of self.old) ++ new.now ∷ [] else records_in (bytes_of self.old)) }
+        ensures capacity { capacity_of kind (bytes_of self.new) ≡ capacity_of kind (bytes_of self.old) }
+        ensures bytes { bytes_of self.new ≡ (if is_ok result then extended (bytes_of self.old) new.now else bytes_of self.old) }
+        ensures refused { is_ok result ≡ false → self.new ≡ self.old }
+        ensures opens { is_log (bytes_of self.new) ≡ true }
+    {
         if self.counts.listed >= self.capacity() {
             return Err(Full);
         }
@@ -132,7 +154,14 @@ impl Store for Log {
         Ok(())
     }
 
-    fn remove(&mut self, place: usize) -> Result<(), NoRecord> {
+    fn remove(&mut self, place: usize) -> Result<(), NoRecord>
+        ensures answer { is_ok result ≡ nat_lt place (length (records_in (bytes_of self.old))) }
+        ensures list { records_in (bytes_of self.new) ≡ (if is_ok result then remove (records_in (bytes_of self.old)) place else records_in (bytes_of self.old)) }
+        ensures capacity { capacity_of kind (bytes_of self.new) ≡ capacity_of kind (bytes_of self.old) }
+        ensures bytes { bytes_of self.new ≡ (if is_ok result then reduced (bytes_of self.old) place else bytes_of self.old) }
+        ensures refused { is_ok result ≡ false → self.new ≡ self.old }
+        ensures opens { is_log (bytes_of self.new) ≡ true }
+    {
         if place >= self.counts.listed {
             return Err(NoRecord);
         }

@@ -1,3 +1,4 @@
+pub mod Agreement
 mod Blocks
 mod Differences
 mod Maps
@@ -5,3 +6,4 @@ pub mod Open
 mod Pads
 mod Rotations
 mod Streams
+pub mod Writes

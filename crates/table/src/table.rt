@@ -1,7 +1,9 @@
 //! A table of records, and its calls.
 
-ghost use Rattle.std.specs.Prelude.{◌≡◌, ◌/◌, true, length};
+ghost use Rattle.std.specs.Prelude.{◌≡◌, ◌/◌, true, false, [], ◌∷◌, ◌++◌, length, is_ok, OnOk, if◌then◌else◌, nat_lt, slice_index_or};
+ghost use Rattle.std.specs.List.{remove};
 ghost use Rattle.std.proofs.Common.{refl, ap};
+ghost use Rattle.credential.specs.Rec.{is_within};
 ghost use Rattle.image.specs.Cut.{bytes_of};
 ghost use Rattle.image.specs.Kinds.{capacity_of};
 ghost use Rattle.image.specs.Laws.{imaged};
@@ -87,16 +89,30 @@ impl Store for Table {
 
     ghost determined = { λ s t e. (ap records_in e, ap (capacity_of kind) e) };
 
-    fn count(&self) -> usize {
+    // Each call says the trait's clauses, and that the image opens as a table: of a value with a model a caller knows
+    // what clauses say.
+    fn count(&self) -> usize
+        ensures answer { result ≡ length (records_in (bytes_of self.now)) }
+        ensures opens { is_table (bytes_of self.now) ≡ true }
+    {
         self.listed
     }
 
     #[tactic(auto, using(image::proofs::Cells::length_slots))]
-    fn capacity(&self) -> usize {
+    fn capacity(&self) -> usize
+        ensures answer { result ≡ capacity_of kind (bytes_of self.now) }
+        ensures opens { is_table (bytes_of self.now) ≡ true }
+    {
         self.image.len()
     }
 
-    fn read(&self, place: usize, into: &mut Record) -> Result<(), NoRecord> {
+    fn read(&self, place: usize, into: &mut Record) -> Result<(), NoRecord>
+        ensures answer { is_ok result ≡ nat_lt place (length (records_in (bytes_of self.now))) }
+        ensures found { into.new ≡ slice_index_or (records_in (bytes_of self.now)) place into.old }
+        ensures within { OnOk result (is_within into.new ≡ true) }
+        ensures refused { is_ok result ≡ false → into.new ≡ into.old }
+        ensures opens { is_table (bytes_of self.now) ≡ true }
+    {
         if place >= self.listed {
             return Err(NoRecord);
         }
@@ -104,7 +120,14 @@ impl Store for Table {
         Ok(())
     }
 
-    fn add(&mut self, new: &Record) -> Result<(), Full> {
+    fn add(&mut self, new: &Record) -> Result<(), Full>
+        ensures answer { is_ok result ≡ nat_lt (length (records_in (bytes_of self.old))) (capacity_of kind (bytes_of self.old)) }
+        ensures list { records_in (bytes_of self.new) ≡ (if is_ok result then records_in (bytes_of self.old) ++ new.now ∷ [] else records_in (bytes_of self.old)) }
+        ensures capacity { capacity_of kind (bytes_of self.new) ≡ capacity_of kind (bytes_of self.old) }
+        ensures bytes { bytes_of self.new ≡ (if is_ok result then extended (bytes_of self.old) new.now else bytes_of self.old) }
+        ensures refused { is_ok result ≡ false → self.new ≡ self.old }
+        ensures opens { is_table (bytes_of self.new) ≡ true }
+    {
         let listed = self.listed;
         if listed == self.image.len() {
             return Err(Full);
@@ -114,7 +137,14 @@ impl Store for Table {
         Ok(())
     }
 
-    fn remove(&mut self, place: usize) -> Result<(), NoRecord> {
+    fn remove(&mut self, place: usize) -> Result<(), NoRecord>
+        ensures answer { is_ok result ≡ nat_lt place (length (records_in (bytes_of self.old))) }
+        ensures list { records_in (bytes_of self.new) ≡ (if is_ok result then remove (records_in (bytes_of self.old)) place else records_in (bytes_of self.old)) }
+        ensures capacity { capacity_of kind (bytes_of self.new) ≡ capacity_of kind (bytes_of self.old) }
+        ensures bytes { bytes_of self.new ≡ (if is_ok result then reduced (bytes_of self.old) place else bytes_of self.old) }
+        ensures refused { is_ok result ≡ false → self.new ≡ self.old }
+        ensures opens { is_table (bytes_of self.new) ≡ true }
+    {
         let listed = self.listed;
         if place >= listed {
             return Err(NoRecord);

@@ -2,7 +2,7 @@ use Rattle.std.proofs.Common.{◌/◌, ◌<◌, length, vec_items, sym, ◌∙�
 use Rattle.std.proofs.lemmas.Bool.{eqb-true, eqb-false}
 use Rattle.lines.proofs.Spelling.{is_dash, no_dash, read_dash, read-empty, read_odd, read_none, read_no_high, read_no_low, read_more, read_all, spells, chunk_high, chunk_low}
 use Rattle.lines.proofs.hex.decode.Goals as goal
-use Rattle.lines.proofs.hex.decode.Goals.{then-is_empty-via-then-is_empty, then-is_empty-via-else-is_empty+then-text-ne0, in_default-via-in-Some+in_default, in_default-via-in_default}
+use Rattle.lines.proofs.hex.decode.Goals.{then-is_empty-via-then-is_empty, then-is_empty-via-else-is_empty+then-text-ne0}
 
 pub returns-then-eq : goal.returns-then-eq
 returns-then-eq c =
@@ -26,26 +26,24 @@ loop-high-init c =
     let some = eqb-false _ 0 (sym c.is_empty.ensures ∙ c.if-is_empty.false) in
     rw c.new-bytes.ensures.items (read_none _ (omega (arith, some)) (no_dash _ _ _ c.eq.ensures c.as_slice.ensures c.if-eq.false))
 
+pub returns-in_default-clause-answer : goal.returns-in_default-clause-answer
+returns-in_default-clause-answer c =
+    let at : c.loop-high.high-index < length c.args.text.now / 2 = omega (arith, c.as_chunks.ensures.front_len) in
+    let high = sym (chunk_high _ _ _ _ c.as_chunks.ensures.front at) ∙ sym c.value_of.ensures ∙ c.in_default.is in
+    sym (read_no_high _ _ _ (omega arith) high c.loop-high.invariant)
+
+pub returns-in_default-value_of-clause-answer : goal.returns-in_default-value_of-clause-answer
+returns-in_default-value_of-clause-answer c =
+    let at : c.loop-high.high-index < length c.args.text.now / 2 = omega (arith, c.as_chunks.ensures.front_len) in
+    let high = sym (chunk_high _ _ _ _ c.as_chunks.ensures.front at) ∙ sym c.in-Some.ensures in
+    let low = sym (chunk_low _ _ _ _ c.as_chunks.ensures.front at) ∙ sym c.value_of-in-loop-high.ensures ∙ c.in_default-value_of.is in
+    sym (read_no_low _ _ _ _ (omega arith) high low c.loop-high.invariant)
+
 pub loop-high-preserved : goal.loop-high-preserved
 loop-high-preserved c =
     let at : c.loop-high.high-index < length c.args.text.now / 2 = omega (arith, c.as_chunks.ensures.front_len) in
-    read_more _ _ _ _ _ _ (omega arith) (sym (chunk_high _ _ _ _ c.as_chunks.ensures.front at) ∙ sym c.in-Some-Some.ensures) (sym (chunk_low _ _ _ _ c.as_chunks.ensures.front at) ∙ sym c.in-Some-Some.ensures')
+    read_more _ _ _ _ _ _ (omega arith) (sym (chunk_high _ _ _ _ c.as_chunks.ensures.front at) ∙ sym c.in-Some.ensures) (sym (chunk_low _ _ _ _ c.as_chunks.ensures.front at) ∙ sym c.in-Some-value_of.ensures)
     c.in_ok-push.ensures.items c.loop-high.invariant
-
-pub returns-in_default : goal.returns-in_default
-returns-in_default c =
-    let at : c.loop-high.high-index < length c.args.text.now / 2 = omega (arith, c.as_chunks.ensures.front_len) in
-    let high = sym (chunk_high _ _ _ _ c.as_chunks.ensures.front at) ∙ sym c.value_of.ensures in
-    let low = sym (chunk_low _ _ _ _ c.as_chunks.ensures.front at) ∙ sym c.value_of-in-loop-high.ensures in
-    record {
-      answer =
-          sym
-          (elim c.in_default.branch [
-            | in_default-via-in-Some+in_default w ↦ read_no_low _ _ _ _ (omega arith) (high ∙ w.in_default.is-0) (low ∙ w.in_default.is-1) c.loop-high.invariant
-            | in_default-via-in_default w ↦ read_no_high _ _ _ (omega arith) (high ∙ w.in_default.is-0) c.loop-high.invariant
-          ]);
-      exact = tt;
-    }
 
 pub returns : goal.returns
 returns c =

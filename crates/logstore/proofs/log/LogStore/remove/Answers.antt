@@ -54,3 +54,6 @@ returns-clause-list c = (after (goal.at.returns-clause-list c).After-write).reco
 
 pub returns-clause-bytes : goal.returns-clause-bytes
 returns-clause-bytes c = (after (goal.at.returns-clause-bytes c).After-write).bytes
+
+pub returns-clause-opens : goal.returns-clause-opens
+returns-clause-opens c = (after (goal.at.returns-clause-opens c).After-write).ok

@@ -36,3 +36,6 @@ returns-clause-list c = rw (← c.self.view_is) ((after (goal.at.returns-clause-
 
 pub returns-clause-bytes : goal.returns-clause-bytes
 returns-clause-bytes c = rw (← c.self.view_is) ((after (goal.at.returns-clause-bytes c).After-write).bytes)
+
+pub returns-clause-opens : goal.returns-clause-opens
+returns-clause-opens c = (after (goal.at.returns-clause-opens c).After-write).opens
